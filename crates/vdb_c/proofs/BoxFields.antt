@@ -1,15 +1,5 @@
 -- Fields that a call writes voxel by voxel.
-use Rattle.std.proofs.Common.{◌≡◌, refl, sym, ap, ◌∙◌, subst, Bool, true, false, cond, IsTrue, ℕ, ◌+◌, ◌&&◌, tests, rules}
-use Rattle.std.specs.Prelude.{Option, Some, nat_lt}
-use Rattle.vdb_coord.specs.Space.{Box, coord_eq, everywhere, is_inside, volume}
-use Rattle.vdb_coord.specs.declared.Coord.{Coord}
-use Rattle.vdb_coord.proofs.Members.{coord_exact}
-use Rattle.vdb_value.specs.declared.Cell.{Cell}
-use Rattle.vdb_tree.specs.Field.{Field, as_cell_of, as_field_of, field, write, written}
-use Rattle.vdb_tree.specs.declared.Write.{Write}
-use Rattle.vdb_tree.proofs.Fields.{cell_inside, same_cells}
-use Rattle.vdb_scene.specs.declared.scalar.Scalar.{Scalar}
-use Rattle.vdb_c.specs.BoxWrites.{is_first, rank, with_writes, written_any}
+use Rattle.vdb_c.proofs.Common.{◌≡◌, refl, sym, ap, ◌∙◌, subst, Bool, true, false, cond, IsTrue, ℕ, ◌+◌, ◌&&◌, tests, rules, Option, Some, nat_lt, Box, coord_eq, everywhere, is_inside, volume, Coord, coord_exact, Cell, Field, as_cell_of, as_field_of, field, write, written, Write, cell_inside, same_cells, Scalar, is_first, rank, with_writes, written_any}
 use Rattle.vdb_c.proofs.Ranks.{first_all, first_not, first_now, first_other}
 
 twice : {V : Type 0} (background : V) (c : Coord → Cell V) → field background (field background c).cell ≡ field background c

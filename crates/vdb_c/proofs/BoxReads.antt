@@ -1,17 +1,6 @@
 -- Arrays of a box of a tree, with values of any type.
-use Rattle.std.proofs.Common.{◌≡◌, sym, ap, ◌∙◌, ℤ, IsTrue, List, ◌≤ℤ◌, arith}
-use Rattle.std.proofs.lemmas.Int.{ints}
-use Rattle.vdb_coord.specs.Boxes.{is_bounds}
-use Rattle.vdb_coord.specs.Space.{Box, everywhere, is_box, is_inside, is_within}
-use Rattle.vdb_coord.specs.declared.Coord.{Coord}
-use Rattle.vdb_coord.proofs.Boxes.{both}
-use Rattle.vdb_coord.proofs.Walk.{inside_from, inside_parts}
-use Rattle.vdb_c.specs.Elements.{IsLaid}
-use Rattle.vdb_c.specs.declared.boxes.elements.Strides.{Strides}
+use Rattle.vdb_c.proofs.Common.{◌≡◌, sym, ap, ◌∙◌, ℤ, IsTrue, List, ◌≤ℤ◌, arith, ints, is_bounds, Box, everywhere, is_box, is_inside, is_within, Coord, both, inside_from, inside_parts, IsLaid, Strides, Field, as_cell_of, as_field_of, cell_inside, Cell}
 use Rattle.vdb_c.proofs.Laid.{laid_same}
-use Rattle.vdb_tree.specs.Field.{Field, as_cell_of, as_field_of}
-use Rattle.vdb_tree.proofs.Fields.{cell_inside}
-use Rattle.vdb_value.specs.declared.Cell.{Cell}
 
 -- a box within the range has voxels in the range
 in_range : (b : Box) → IsTrue (is_bounds b) → (q : Coord) → IsTrue (is_inside b q) → IsTrue (is_inside everywhere q)

@@ -1,24 +1,10 @@
 -- Arrays that a call fills by the rows of a leaf.
-use Rattle.std.proofs.Common.{◌≡◌, ◌⊎◌, inl, inr, ◌+◌, ◌-◌, ◌*◌, ◌/◌, ◌<◌, ◌≤◌, ◌+ℤ◌, ◌*ℤ◌, pos, ℕ, ℤ, refl, sym, ap, ◌∙◌, subst, Bool, true, false, ◌&&◌, IsTrue, List, length, take, drop, get_or, arith, rules, tests, length-drop}
-use Rattle.std.specs.Prelude.{None, Some, nat_lt}
-use Rattle.std.specs.Int.{int_gap}
-use borrow.Rule.Slice.PartMut.{put_mid}
-use Rattle.std.proofs.lemmas.Int.{ints}
-use Rattle.std.proofs.lemmas.List.{length-take-le}
+use Rattle.vdb_c.proofs.Common.{◌≡◌, ◌⊎◌, inl, inr, ◌+◌, ◌-◌, ◌*◌, ◌<◌, ◌≤◌, ◌+ℤ◌, pos, ℕ, ℤ, refl, sym, ap, ◌∙◌, subst, Bool, true, false, ◌&&◌, IsTrue, List, length, take, get_or, arith, rules, tests, None, Some, nat_lt, int_gap, put_mid, ints, length-take-le, block_number, offset, vdb, Box, coord, is_inside, volume, Coord, both, IsInOneLeaf, IsNextVoxel, along_z, dense, is_first, rank, IsLaid, are_apart, place, HasRun, Strides}
+use Rattle.std.proofs.Common.{◌/◌, ◌*ℤ◌, drop, length-drop}
 use Rattle.std.proofs.Math.Nat.{div-one}
-use Rattle.vdb_coord.specs.Blocks.{block_number, offset, vdb}
 use Rattle.vdb_coord.specs.Components.{number_at}
-use Rattle.vdb_coord.specs.Space.{Box, coord, is_inside, volume}
-use Rattle.vdb_coord.specs.declared.Coord.{Coord}
 use Rattle.vdb_coord.specs.declared.Level.TheVariants.{Leaf as leaf_level}
-use Rattle.vdb_coord.proofs.Boxes.{both}
 use Rattle.vdb_coord.proofs.Division.{parts, rest, rest_below}
-use Rattle.vdb_tree.specs.Parts.{IsInOneLeaf}
-use Rattle.vdb_c.specs.BoxVoxels.{IsNextVoxel}
-use Rattle.vdb_c.specs.BoxWrites.{along_z, dense, is_first, rank}
-use Rattle.vdb_c.specs.Elements.{IsLaid, are_apart, place}
-use Rattle.vdb_c.specs.Leaves.{HasRun}
-use Rattle.vdb_c.specs.declared.boxes.elements.Strides.{Strides}
 use Rattle.vdb_c.proofs.Laid.{either_way, false_true, laid_none, laid_over, laid_within}
 use Rattle.vdb_c.proofs.LeafRows.{run_put}
 use Rattle.vdb_c.proofs.Places.{place_at_most, same_place}

@@ -1,18 +1,9 @@
 -- A write of one type as one of any type.
-use Rattle.std.proofs.Common.{◌≡◌, ◌<◌, refl, sym, subst, ℕ, ℤ, pos, Bool, List, length, get_or}
-use Rattle.std.specs.Prelude.{IsSome, Ok, Option, Some, None, slice_get}
+use Rattle.vdb_c.proofs.Common.{◌≡◌, ◌<◌, refl, sym, subst, ℕ, ℤ, pos, Bool, List, length, get_or, IsSome, Ok, Option, Some, None, slice_get, vdb, Coord, Field, as_field_of, as_write_of, write, Write, Scalar, I64, IsWrittenBy, change_at, change_of}
 use Rattle.std.proofs.lemmas.Option.{slice_get-get_or}
-use Rattle.vdb_coord.specs.Blocks.{vdb}
-use Rattle.vdb_coord.specs.declared.Coord.{Coord}
-use Rattle.vdb_tree.specs.Field.{Field, as_field_of, as_write_of, write}
 use Rattle.vdb_tree.specs.Outcome.{IsOutcome}
-use Rattle.vdb_tree.specs.declared.Write.{Write}
 use Rattle.vdb_tree.proofs.AsFieldOf.{as_outcome_of_write}
 use Rattle.vdb_scene.specs.Scalars.{scalar_eq}
-use Rattle.vdb_scene.specs.declared.scalar.Scalar.{Scalar}
-use Rattle.vdb_value.specs.declared.Kind.TheVariants.{I64}
-use Rattle.vdb_c.specs.Calls.{IsWrittenBy}
-use Rattle.vdb_c.specs.Many.{change_at, change_of}
 
 module _ {V : Type 0} (make : V → Scalar) (eq : V → V → Bool) (same : (v w : V) → scalar_eq (make v) (make w) ≡ eq v w) where
   pub written_as : (limit : ℕ) (p : Coord) (w : Write V) (f after : Field V) (given : Option (Write Scalar)) → Some (as_write_of make w) ≡ given

@@ -1,17 +1,10 @@
 -- Arrays that calls fill element by element.
-use Rattle.std.proofs.Common.{◌≡◌, ◌<◌, ◌≤◌, ◌≢◌, ◌⊎◌, inl, inr, ℕ, ◌+◌, refl, sym, ◌∙◌, ap, subst, Bool, true, false, IsTrue, List, length, map, take, set, get_or, arith, get_or-set_same, get_or-set_other}
+use Rattle.vdb_c.proofs.Common.{◌≡◌, ◌<◌, ◌≤◌, ◌≢◌, ◌⊎◌, inl, inr, ℕ, ◌+◌, refl, sym, ◌∙◌, ap, subst, Bool, true, false, IsTrue, List, length, take, set, get_or, arith, get_or-set_same, get_or-set_other, cases_eq, nat_tests, length-set, length-take-le, get_or_default, Coord, Cell, as_cell_of, as_field_of, field, as_field_of_cell, state_byte, Corner}
+use Rattle.std.proofs.Common.{map}
 use mir.Val.{bool_byte}
-use Rattle.std.proofs.lemmas.Bool.{cases_eq}
-use Rattle.std.proofs.lemmas.Bool.Decides.{nat_tests}
-use Rattle.std.proofs.lemmas.List.{length-map, length-set, length-take-le, same_lists, get_or-map, get_or-take, get_or_default}
+use Rattle.std.proofs.lemmas.List.{length-map, same_lists, get_or-map, get_or-take}
 use Rattle.std.proofs.Math.Path.{fun_ext}
-use Rattle.vdb_coord.specs.declared.Coord.{Coord}
-use Rattle.vdb_value.specs.declared.Cell.{Cell}
-use Rattle.vdb_tree.specs.Field.{as_cell_of, as_field_of, field}
-use Rattle.vdb_tree.proofs.AsFieldOf.{as_field_of_cell}
 use Rattle.vdb_c.specs.Many.{IsReadAt, is_beside}
-use Rattle.vdb_c.specs.Values.{state_byte}
-use Rattle.vdb_c.specs.declared.values.Corner.{Corner}
 
 module _ {A X : Type 0} (f : A → X) where
   -- the first k elements of an array have what f makes of those of another one

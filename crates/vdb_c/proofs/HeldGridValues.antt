@@ -1,17 +1,6 @@
 -- What a held grid owns, as steps of a walk. Assumes `Logic`.
-use Rattle.std.proofs.Common.{◌≡◌, List, [], ◌∷◌, ◌++◌, refl, ◌∙◌}
-use seplogic.Ra.Ura.{Ura}
-use mir.Val.{Val, vstruct, of_list}
-use types.Logic.{Logic}
-use types.Kit.{Item, Goal, Seq, Step, step, ‵, ◌$◌, drop, fsplit, fjoin, fpick, fpack, feq_i, feq_l}
-use denote.RattleType.{RattleType, Valss}
-use denote.RawPtr.{Ptr, RawPtr, ptr_val}
-use denote.Steps.{nothing}
-use denote.Struct.Struct.{within}
-use denote.Struct.Owning.{shape}
+use Rattle.vdb_c.proofs.Common.{◌≡◌, List, [], ◌∷◌, ◌++◌, refl, ◌∙◌, Ura, Val, vstruct, of_list, Logic, Item, Goal, Seq, Step, step, ‵, ◌$◌, drop, fsplit, fjoin, fpick, fpack, feq_i, feq_l, RattleType, Valss, Ptr, RawPtr, ptr_val, nothing, within, shape, freeing, owns_boxed, Row}
 use Rattle.std.specs.declared.option.Option.{Option}
-use Rattle.vdb_c.specs.Kept.{freeing, owns_boxed}
-use Rattle.vdb_c.specs.HeldGrid.{Row}
 use Rattle.vdb_c.specs.contracts.handles.held_grid.HeldGrid as held_grid
 use Rattle.vdb_c.proofs.Pointers.{pointer_val}
 

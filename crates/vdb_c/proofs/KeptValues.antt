@@ -1,22 +1,10 @@
 -- What a kept box owns, as steps of a walk. Assumes `Logic`.
-use Rattle.std.proofs.Common.{◌≡◌, List, [], ◌∷◌, ◌++◌, refl, ◌∙◌}
-use seplogic.Ra.Ura.{Ura}
-use mir.Syntax.{impl, tnil, dnil}
-use mir.Val.{Val, vstruct, of_list}
-use types.Logic.{Logic}
-use types.Kit.{Item, Goal, Seq, Step, step, ‵, ◌$◌, move, drop, fsplit, fjoin, fpick, fpack, feq_i, feq_l}
-use denote.Param.{layout}
+use Rattle.vdb_c.proofs.Common.{◌≡◌, List, [], ◌∷◌, ◌++◌, refl, ◌∙◌, Ura, dnil, Val, vstruct, of_list, Logic, Item, Goal, Seq, Step, step, ‵, ◌$◌, move, drop, fsplit, fjoin, fpick, fpack, feq_i, feq_l, layout, RattleType, Valss, Ptr, RawPtr, ptr_val, nothing, within, shape, handle_tells, Good, owns_boxed}
+use mir.Syntax.{impl, tnil}
 use denote.Param.Laws.{Laws}
-use denote.RattleType.{RattleType, Valss}
-use denote.RawPtr.{Ptr, RawPtr, ptr_val}
-use denote.Steps.{nothing}
-use denote.Struct.Struct.{within}
-use denote.Struct.Owning.{shape}
 use Rattle.core.specs.declared.alloc.Allocator.{Ghosts}
-use Rattle.core.proofs.alloc.Calls.{Al, handle_tells}
-use Rattle.core.proofs.cell.Inside.{Good}
+use Rattle.core.proofs.alloc.Calls.{Al}
 use Rattle.std.specs.declared.option.Option.{Option}
-use Rattle.vdb_c.specs.Kept.{owns_boxed}
 use Rattle.vdb_c.specs.contracts.handles.kept.Kept as kept
 use Rattle.vdb_c.proofs.Pointers.{beside_val}
 

@@ -1,13 +1,5 @@
 -- Arrays that calls fill voxel by voxel.
-use Rattle.std.proofs.Common.{◌≡◌, ◌⊎◌, inl, inr, ◌<◌, ℕ, refl, sym, ap, ◌∙◌, subst, Bool, true, false, IsTrue, List, length, get_or, set, arith, get_or-set_same, get_or-set_other}
-use Rattle.std.specs.Prelude.{None}
-use Rattle.std.proofs.lemmas.List.{length-set}
-use Rattle.vdb_coord.specs.Space.{Box, coord_eq, is_inside}
-use Rattle.vdb_coord.specs.declared.Coord.{Coord}
-use Rattle.vdb_coord.proofs.Members.{coord_equiv, coord_exact}
-use Rattle.vdb_c.specs.Elements.{IsLaid, are_apart, place}
-use Rattle.vdb_c.specs.BoxVoxels.{IsNextVoxel, IsUpTo}
-use Rattle.vdb_c.specs.declared.boxes.elements.Strides.{Strides}
+use Rattle.vdb_c.proofs.Common.{◌≡◌, ◌⊎◌, inl, inr, ◌<◌, ℕ, refl, sym, ap, ◌∙◌, subst, Bool, true, false, IsTrue, List, length, get_or, set, arith, get_or-set_same, get_or-set_other, None, length-set, Box, coord_eq, is_inside, Coord, coord_equiv, coord_exact, IsLaid, are_apart, place, IsNextVoxel, IsUpTo, Strides}
 use Rattle.vdb_c.proofs.NextVoxels.{or_first, or_second, or_ways, with_voxel}
 use Rattle.vdb_c.proofs.Places.{same_place}
 

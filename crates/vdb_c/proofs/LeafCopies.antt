@@ -1,16 +1,6 @@
 -- Leaves in arrays, before and after values are mapped to those of any type.
-use Rattle.std.proofs.Common.{◌≡◌, sym, ap, ◌∙◌, ℕ, ℤ, List}
-use Rattle.vdb_coord.specs.Blocks.{vdb}
-use Rattle.vdb_coord.specs.declared.Coord.{Coord}
-use Rattle.vdb_value.specs.declared.Cell.{Cell}
-use Rattle.vdb_tree.specs.Field.{as_cell_of, as_field_of}
-use Rattle.vdb_tree.specs.Layout.{Layout, cell_at, field_of}
-use Rattle.vdb_tree.proofs.AsFieldOf.{as_field_of_cell}
-use Rattle.vdb_scene.specs.declared.scalar.Scalar.{Scalar}
-use Rattle.vdb_c.specs.Leaves.{HasRows, IsValueOf, IsWordOf}
-use Rattle.vdb_c.specs.Many.{number_at, voxel_at}
-use Rattle.vdb_c.specs.Values.{value_number}
-use Rattle.vdb_c.specs.declared.values.Corner.{Corner}
+use Rattle.vdb_c.proofs.Common.{◌≡◌, sym, ap, ◌∙◌, ℕ, ℤ, List, vdb, Coord, Cell, as_cell_of, as_field_of, Layout, cell_at, field_of, as_field_of_cell, Scalar, HasRows, IsValueOf, IsWordOf, voxel_at, value_number, Corner}
+use Rattle.vdb_c.specs.Many.{number_at}
 use Rattle.vdb_c.proofs.LeafRows.{rows_as}
 
 module _ {V : Type 0} (make : V → Scalar) (t : Layout V) (n : ℕ) (at : List Corner) where

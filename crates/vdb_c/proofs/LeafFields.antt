@@ -1,36 +1,17 @@
 -- Voxels that a call writes leaf by leaf.
-use Rattle.std.proofs.Common.{◌≡◌, ◌≢◌, ◌⊎◌, inl, inr, refl, sym, ap, ◌∙◌, subst, ℕ, ℤ, ◌+◌, ◌<◌, ◌^◌, ◌≤ℤ◌, arith, Bool, true, false, cond, ◌&&◌, not, IsTrue}
-use Rattle.std.specs.Prelude.{Option, Some, None, Result, Ok, Err, is_ok, OnOk}
-use Rattle.std.proofs.lemmas.Int.{ints}
-use Rattle.vdb_coord.specs.Blocks.{block_around, block_number, offset, vdb}
-use Rattle.vdb_coord.specs.Boxes.{is_bounds}
-use Rattle.vdb_coord.specs.Space.{Box, coord_eq, everywhere, is_inside, volume}
-use Rattle.vdb_coord.specs.Walk.{IsBlockBefore, IsNextBlock}
-use Rattle.vdb_coord.specs.declared.Coord.{Coord}
+use Rattle.vdb_c.proofs.Common.{◌≡◌, ◌≢◌, ◌⊎◌, inl, inr, refl, sym, ap, ◌∙◌, subst, ℕ, ℤ, ◌+◌, ◌<◌, ◌^◌, ◌≤ℤ◌, arith, Bool, true, false, cond, ◌&&◌, not, IsTrue, Option, Some, None, Result, Ok, Err, ints, block_number, offset, vdb, is_bounds, Box, coord_eq, everywhere, is_inside, volume, IsBlockBefore, Coord, before_not_same, both, coord_equiv, coord_exact, number_in_block, none_before, cell_in, Cell, Field, as_cell_of, as_field_of, as_write_of, field, off, written, Layout, field_of, IsLeafAround, in_leaf, Write, cell_inside, same_cells, Scalar, IsInOneLeaf, IsNextVoxel, IsUpTo, with_writes, written_any, are_apart, place, AreLaid, AreWritten, IsBeside, IsReady, IsWritten, Strides}
+use Rattle.std.specs.Prelude.{is_ok, OnOk}
+use Rattle.vdb_coord.specs.Blocks.{block_around}
+use Rattle.vdb_coord.specs.Walk.{IsNextBlock}
 use Rattle.vdb_coord.specs.declared.Level.TheVariants.{Leaf as leaf_level}
-use Rattle.vdb_coord.proofs.BlockOrder.{before_not_same, moved_before}
-use Rattle.vdb_coord.proofs.Boxes.{both}
-use Rattle.vdb_coord.proofs.Members.{coord_equiv, coord_exact}
-use Rattle.vdb_coord.proofs.Nesting.{inside_numbered, number_in_block, voxel_from_leaf}
-use Rattle.vdb_coord.proofs.Walk.{none_before}
-use Rattle.vdb_node.specs.Leaf.{cell_in, Leaf}
-use Rattle.vdb_value.specs.declared.Cell.{Cell}
-use Rattle.vdb_tree.specs.Field.{Field, as_cell_of, as_field_of, as_write_of, field, off, written}
-use Rattle.vdb_tree.specs.Layout.{Layout, field_of}
-use Rattle.vdb_tree.specs.Leaves.{IsLeafAround, with_leaf}
-use Rattle.vdb_tree.specs.Paths.{in_leaf, is_child}
-use Rattle.vdb_tree.specs.declared.Write.{Write}
+use Rattle.vdb_coord.proofs.BlockOrder.{moved_before}
+use Rattle.vdb_coord.proofs.Nesting.{inside_numbered, voxel_from_leaf}
+use Rattle.vdb_node.specs.Leaf.{Leaf}
+use Rattle.vdb_tree.specs.Leaves.{with_leaf}
+use Rattle.vdb_tree.specs.Paths.{is_child}
 use Rattle.vdb_tree.proofs.AsFieldOf.{as_cell_of_written}
 use Rattle.vdb_tree.proofs.Descents.{lower_by_block}
-use Rattle.vdb_tree.proofs.Fields.{cell_inside, same_cells}
 use Rattle.vdb_tree.proofs.Levels.{like_coords, unlike_coords, coord_cases}
-use Rattle.vdb_scene.specs.declared.scalar.Scalar.{Scalar}
-use Rattle.vdb_tree.specs.Parts.{IsInOneLeaf}
-use Rattle.vdb_c.specs.BoxVoxels.{IsNextVoxel, IsUpTo}
-use Rattle.vdb_c.specs.BoxWrites.{with_writes, written_any}
-use Rattle.vdb_c.specs.Elements.{are_apart, place}
-use Rattle.vdb_c.specs.LeafWrites.{AreLaid, AreWritten, IsBeside, IsReady, IsWritten}
-use Rattle.vdb_c.specs.declared.boxes.elements.Strides.{Strides}
 use Rattle.vdb_c.proofs.Laid.{either_way, false_true}
 use Rattle.vdb_c.proofs.NextVoxels.{all_passed, earlier, no_next, none, not_yet, or_first, or_second, or_ways, up_to_min, up_to_next, with_inside, with_voxel}
 use Rattle.vdb_c.proofs.Places.{max_inside}

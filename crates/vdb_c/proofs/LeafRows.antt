@@ -1,17 +1,8 @@
 -- Arrays that calls fill row by row.
-use Rattle.std.proofs.Common.{◌≡◌, ◌<◌, ◌≤◌, ◌≢◌, ◌⊎◌, inl, inr, ℕ, zero, suc, ◌+◌, ◌*◌, refl, sym, ◌∙◌, ap, subst, true, ◌||◌, IsTrue, List, length, set, get_or, arith, rules, add-one, get_or-set_same, get_or-set_other, Option, Some}
-use Rattle.std.specs.Prelude.{nat_eq}
-use Rattle.std.proofs.lemmas.Bool.{cases_eq}
-use Rattle.std.proofs.lemmas.Bool.Decides.{nat_tests}
+use Rattle.vdb_c.proofs.Common.{◌≡◌, ◌<◌, ◌≤◌, ◌≢◌, ◌⊎◌, inl, inr, ℕ, zero, suc, ◌+◌, ◌*◌, refl, sym, ◌∙◌, ap, subst, true, ◌||◌, IsTrue, List, length, set, get_or, arith, rules, add-one, get_or-set_same, get_or-set_other, Option, Some, nat_eq, cases_eq, nat_tests, put_mid, mul-le, Coord, HasRows, HasRun, last_before, voxel_at, corner_coord, Corner}
 use Rattle.std.proofs.lemmas.List.{places}
-use borrow.Rule.Slice.PartMut.{put_mid}
 use Rattle.std.proofs.Math.Nat.{mul-suc}
-use Rattle.std.proofs.lemmas.Nat.{mul-le}
-use Rattle.vdb_coord.specs.declared.Coord.{Coord}
-use Rattle.vdb_c.specs.Leaves.{HasRows, HasRun, has_rows, last_before}
-use Rattle.vdb_c.specs.Many.{voxel_at}
-use Rattle.vdb_c.specs.Values.{corner_coord}
-use Rattle.vdb_c.specs.declared.values.Corner.{Corner}
+use Rattle.vdb_c.specs.Leaves.{has_rows}
 
 times_more : (size k : ℕ) → size * (k + 1) ≡ size * k + size
 times_more size k = ap (λ (m : ℕ). size * m) (add-one k) ∙ mul-suc size k

@@ -1,3 +1,4 @@
+mod Common
 mod Pointers
 mod KeptValues
 mod HeldGridValues

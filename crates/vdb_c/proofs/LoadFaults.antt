@@ -1,11 +1,10 @@
 -- What a fault of loading says of bytes in memory.
-use Rattle.std.proofs.Common.{◌≡◌, refl, ap, ℕ, List, Ok, Err, false}
-use Rattle.std.specs.Prelude.{IfErr, Result}
+use Rattle.vdb_c.proofs.Common.{◌≡◌, refl, ap, ℕ, List, Ok, Err, false, Result, Scene}
+use Rattle.std.specs.Prelude.{IfErr}
 use Rattle.vdb_file.specs.Faults.{Claims, HasOtherMagic, HasOtherVersion, is_read_fault}
 use Rattle.vdb_file.specs.Scenes.{BeginsWithFile, EndsEarly}
 use Rattle.vdb_file.specs.declared.fault.LoadFault.{LoadFault}
 use Rattle.vdb_file.specs.declared.fault.LoadFault.TheVariants as faults
-use Rattle.vdb_scene.specs.declared.scene.Scene.{Scene}
 use Rattle.vdb_c.specs.Scenes.{IsNoFile, Means}
 
 module _ (bytes : List ℕ) where

@@ -1,15 +1,7 @@
 -- Writes of many voxels, one after another.
-use Rattle.std.proofs.Common.{◌≡◌, refl, sym, ap, ◌∙◌, subst, ℕ, ◌+◌, ℤ, true, false, Result, Ok, Err}
-use Rattle.std.specs.Prelude.{Option, Some, None, is_err}
-use Rattle.std.proofs.Math.Numerals.{suc-eq-add-one}
-use Rattle.vdb_coord.specs.declared.Coord.{Coord}
-use Rattle.vdb_tree.specs.Field.{Field, write}
-use Rattle.vdb_tree.specs.declared.Write.{Write}
-use Rattle.vdb_tree.specs.declared.refusal.TreeRefusal.{TreeRefusal}
-use Rattle.vdb_scene.specs.declared.scalar.Scalar.{Scalar}
-use Rattle.vdb_c.specs.Calls.{IsWrittenBy, IsWrittenIn}
-use Rattle.vdb_c.specs.Codes.{tree_code}
-use Rattle.vdb_c.specs.Many.{IsRefusedIn, after_writes, write_any}
+use Rattle.vdb_c.proofs.Common.{◌≡◌, refl, sym, ap, ◌∙◌, subst, ℕ, ◌+◌, ℤ, true, false, Result, Ok, Err, Option, Some, None, suc-eq-add-one, Coord, Field, write, Write, TreeRefusal, Scalar, IsWrittenBy, tree_code, IsRefusedIn, after_writes, write_any}
+use Rattle.std.specs.Prelude.{is_err}
+use Rattle.vdb_c.specs.Calls.{IsWrittenIn}
 
 true_false : true ≡ false → ⊥
 true_false e = cc

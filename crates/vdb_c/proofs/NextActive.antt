@@ -1,11 +1,7 @@
 -- The first voxel past another, before and after each value is mapped to one of any type.
-use Rattle.std.proofs.Common.{◌≡◌, refl, ap, sym, ◌∙◌, Bool, true, false, cond, List, [], ◌∷◌, find, Option, Some, None}
-use Rattle.std.specs.Option.{option_map}
-use Rattle.vdb_coord.specs.Blocks.{is_past, vdb}
-use Rattle.vdb_coord.specs.Space.{Box}
-use Rattle.vdb_coord.specs.declared.Coord.{Coord}
-use Rattle.vdb_tree.specs.Field.{as_field_of}
-use Rattle.vdb_tree.specs.Layout.{Layout, field_of}
+use Rattle.vdb_c.proofs.Common.{◌≡◌, refl, ap, sym, ◌∙◌, Bool, true, false, cond, List, [], ◌∷◌, Option, Some, None, option_map, vdb, Box, Coord, as_field_of, Layout, field_of}
+use Rattle.std.proofs.Common.{find}
+use Rattle.vdb_coord.specs.Blocks.{is_past}
 use Rattle.vdb_walk.specs.Reports.{active}
 use Rattle.vdb_scene.specs.Listings.{as_voxels_of}
 use Rattle.vdb_scene.proofs.Listings.{made_active}

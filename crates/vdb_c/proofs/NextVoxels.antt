@@ -1,14 +1,6 @@
 -- The voxels of a box, one after another.
-use Rattle.std.proofs.Common.{◌≡◌, ◌⊎◌, inl, inr, ◌<◌, ℤ, pos, ◌+ℤ◌, ◌≤ℤ◌, ◌<ℤ◌, refl, sym, ap, ◌∙◌, subst, Bool, true, false, ◌||◌, IsTrue, SFits, w32, to_z, of_z, arith}
-use Rattle.std.specs.Prelude.{Some, None}
-use lib.Signed.{lt_z}
-use Rattle.std.proofs.lemmas.Int.{ints, to_z-of_z}
-use Rattle.vdb_coord.specs.Space.{Box, coord, coord_eq, is_inside}
-use Rattle.vdb_coord.specs.Walk.{IsBefore, coordinates_after}
-use Rattle.vdb_coord.specs.declared.Coord.{Coord}
-use Rattle.vdb_coord.proofs.Members.{coord_equiv, coord_exact}
-use Rattle.vdb_coord.proofs.Walk.{few_after, inside_from, inside_parts, nearer_x, nearer_y, nearer_z, up_to_x}
-use Rattle.vdb_c.specs.BoxVoxels.{IsNextVoxel, IsUpTo}
+use Rattle.vdb_c.proofs.Common.{◌≡◌, ◌⊎◌, inl, inr, ◌<◌, ℤ, pos, ◌+ℤ◌, ◌≤ℤ◌, ◌<ℤ◌, refl, sym, ap, ◌∙◌, subst, Bool, true, false, ◌||◌, IsTrue, SFits, w32, to_z, of_z, arith, Some, None, lt_z, ints, to_z-of_z, Box, coord, coord_eq, is_inside, IsBefore, coordinates_after, Coord, coord_equiv, coord_exact, inside_from, inside_parts, up_to_x, IsNextVoxel, IsUpTo}
+use Rattle.vdb_coord.proofs.Walk.{few_after, nearer_x, nearer_y, nearer_z}
 
 no_less : {m n : ℤ} → m ≤ℤ n → n <ℤ m → ⊥
 no_less {m} {n} a c = omega (arith, ints, a, c)

@@ -1,24 +1,16 @@
 -- A box read by a walk over the parts of a tree.
-use Rattle.std.proofs.Common.{◌≡◌, ◌⊎◌, inl, inr, refl, sym, ap, ◌∙◌, subst, Bool, true, false, cond, ◌&&◌, not, IsTrue, List}
-use Rattle.std.specs.Prelude.{IsSome, Option, Some, None}
+use Rattle.vdb_c.proofs.Common.{◌≡◌, ◌⊎◌, inl, inr, refl, sym, ap, ◌∙◌, subst, Bool, true, false, cond, ◌&&◌, not, IsTrue, List, IsSome, Option, Some, None, key, vdb, Box, is_inside, Coord, both, cell_in, Field, off, Layout, field_of, root_at, IsPartOfLeaf, content_cell, Absent, Cell, IsLaid, are_apart, Strides}
 use Rattle.std.specs.Ordering.{is_lt}
-use Rattle.vdb_coord.specs.Blocks.{block_cmp, key, vdb}
-use Rattle.vdb_coord.specs.Space.{Box, is_inside}
-use Rattle.vdb_coord.specs.declared.Coord.{Coord}
+use Rattle.vdb_coord.specs.Blocks.{block_cmp}
 use Rattle.vdb_coord.proofs.BlockOrder.{not_before_min}
-use Rattle.vdb_coord.proofs.Boxes.{both}
-use Rattle.vdb_node.specs.Leaf.{cell_in, Leaf as LeafOf}
-use Rattle.vdb_tree.specs.Field.{Field, off}
-use Rattle.vdb_tree.specs.Layout.{Layout, background_cell, field_of, root_at}
-use Rattle.vdb_tree.specs.Parts.{IsPartOfLeaf, IsSkipped, OnLeaf, OnTile, Passes, TreeWalk, YieldsBox, content_cell, is_left}
+use Rattle.vdb_node.specs.Leaf.{Leaf as LeafOf}
+use Rattle.vdb_tree.specs.Layout.{background_cell}
+use Rattle.vdb_tree.specs.Parts.{IsSkipped, OnLeaf, OnTile, Passes, TreeWalk, YieldsBox, is_left}
 use Rattle.vdb_tree.specs.declared.queries.parts.Content.{Content}
 use Rattle.vdb_tree.specs.declared.queries.parts.Content.TheVariants.{Leaf, Tile}
 use Rattle.vdb_tree.specs.declared.queries.parts.Skip.{Skip}
-use Rattle.vdb_tree.specs.declared.queries.parts.Skip.TheVariants.{Absent, Background}
+use Rattle.vdb_tree.specs.declared.queries.parts.Skip.TheVariants.{Background}
 use Rattle.vdb_tree.proofs.PartWalks.{absent_skipped}
-use Rattle.vdb_value.specs.declared.Cell.{Cell}
-use Rattle.vdb_c.specs.Elements.{IsLaid, are_apart}
-use Rattle.vdb_c.specs.declared.boxes.elements.Strides.{Strides}
 use Rattle.vdb_c.proofs.Laid.{either_way, false_true, laid_over, laid_same, laid_within}
 
 left_at_start : (b : Box) (q : Coord) → IsTrue (is_inside b q) → is_left vdb (Some b.min) q ≡ true

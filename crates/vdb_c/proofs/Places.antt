@@ -1,18 +1,10 @@
 -- The elements of voxels in an array.
-use Rattle.std.proofs.Common.{◌≡◌, suc, ◌+◌, ◌*◌, ◌^◌, ◌<◌, ◌≤◌, ◌<ℤ◌, ℕ, ℤ, pos, negsuc, ◌+ℤ◌, refl, sym, ap, ◌∙◌, Bool, true, false, ◌&&◌, ◌||◌, IsTrue, SFits, w32, to_z, of_z, ◌-ℤ◌, unsigned_abs, arith, tests, rules, int_le}
-use Rattle.std.specs.Prelude.{nat_eq, nat_le, nat_lt}
-use Rattle.std.proofs.lemmas.Int.{ints, to_z-of_z}
-use Rattle.std.proofs.lemmas.Nat.{mul-le, row_fits, same_from_place}
-use Rattle.std.specs.Int.{int_gap}
-use Rattle.vdb_coord.specs.Boxes.{is_bounds}
-use Rattle.std.proofs.Math.Nat.{suc-mul}
-use Rattle.std.proofs.Math.Numerals.{suc-eq-add-one}
-use Rattle.vdb_coord.specs.Space.{Box, coord, everywhere, extent, is_between, is_box, is_inside, is_within}
-use Rattle.vdb_coord.specs.declared.Coord.{Coord}
-use Rattle.vdb_coord.proofs.Boxes.{both, three}
+use Rattle.vdb_c.proofs.Common.{◌≡◌, suc, ◌+◌, ◌*◌, ◌^◌, ◌<◌, ◌≤◌, ◌<ℤ◌, ℕ, ℤ, pos, ◌+ℤ◌, refl, sym, ap, ◌∙◌, Bool, true, false, ◌&&◌, ◌||◌, IsTrue, SFits, w32, to_z, of_z, arith, tests, rules, int_le, nat_eq, nat_le, nat_lt, ints, to_z-of_z, mul-le, int_gap, is_bounds, suc-mul, suc-eq-add-one, Box, coord, everywhere, extent, is_box, is_inside, is_within, Coord, both, are_apart, place, Strides}
+use Rattle.std.proofs.Common.{negsuc, ◌-ℤ◌, unsigned_abs}
+use Rattle.std.proofs.lemmas.Nat.{row_fits, same_from_place}
+use Rattle.vdb_coord.specs.Space.{is_between}
+use Rattle.vdb_coord.proofs.Boxes.{three}
 use Rattle.vdb_c.proofs.NextVoxels.{next_along_z}
-use Rattle.vdb_c.specs.Elements.{are_apart, place}
-use Rattle.vdb_c.specs.declared.boxes.elements.Strides.{Strides}
 
 -- ---- along an axis
 

@@ -1,26 +1,16 @@
 -- Pointers as machine values, alone in a struct and with an allocator beside them. Assumes `Logic`.
-use Rattle.std.proofs.Common.{◌≡◌, refl, sym, subst}
+use Rattle.vdb_c.proofs.Common.{◌≡◌, refl, sym, subst, Ura, Val, vstruct, has_ty, WT, full_share, ent, Logic, sem, RattleType, lone, Ptr, ptr_val, lies_at, Testable, IsSome, box_owns, Ptr-Good, freeing}
 use lib.Dec.{T}
-use seplogic.Ra.Ura.{Ura}
 use mir.Raw.{raw as bare}
 use mir.Syntax.{Ty, ty_ptr}
-use mir.Val.{Val, vstruct, vcons, vnil, has_ty, WT}
+use mir.Val.{vcons, vnil}
 use mathlib.Core.Bool.{Bool, true, false, ◌&&◌}
-use base.Fraction.{full_share}
-use base.Logic.{ent, guard, guard_i, via, snd∗}
+use base.Logic.{guard, guard_i, via, snd∗}
 use contract.Monad.{fact_use}
-use types.Logic.{Logic, sem}
-use denote.RattleType.{RattleType}
-use denote.Memory.{lone}
-use denote.RawPtr.{Ptr, ptr_val, lies_at, Testable}
-use Rattle.std.specs.Prelude.{IsSome}
 use Rattle.std.specs.declared.option.Option.{Option}
 use Rattle.std.specs.declared.option.Option.TheVariants.{None, Some}
-use Rattle.std_alloc.specs.Box.Ownership.{box_owns}
-use Rattle.core.proofs.atomic.Steps.{Ptr-Good}
 use Rattle.std.proofs.Handle.{handle as any_heap}
 use Rattle.std.proofs.GlobalToken.{dealloc_token-Testable}
-use Rattle.vdb_c.specs.Kept.{freeing}
 
 -- a struct of one pointer, and of a pointer and one more value
 abbrev pub pointer_val : Ptr → Val

@@ -1,20 +1,7 @@
 -- The voxels of a box by their number.
-use Rattle.std.proofs.Common.{◌≡◌, ◌≢◌, add-one, ◌⊎◌, inl, inr, ◌+◌, ◌*◌, ◌<◌, ◌≤◌, ℕ, ℤ, pos, ◌+ℤ◌, ◌≤ℤ◌, ◌<ℤ◌, refl, sym, ap, ◌∙◌, subst, Bool, true, false, ◌&&◌, IsTrue, arith, tests, rules, int_le, Some, None}
-use Rattle.std.specs.Prelude.{nat_le, nat_lt}
-use Rattle.std.specs.Int.{int_gap}
-use Rattle.std.proofs.lemmas.Int.{ints}
-use Rattle.std.proofs.Math.Nat.{mul_assoc, suc-mul, zero-mul}
-use Rattle.std.proofs.lemmas.Nat.{mul-le}
-use Rattle.vdb_coord.specs.Space.{Box, coord, coord_eq, extent, is_inside, volume}
-use Rattle.vdb_coord.specs.Walk.{IsBefore}
-use Rattle.vdb_coord.specs.declared.Coord.{Coord}
-use Rattle.vdb_coord.proofs.BlockOrder.{before_not_past, before_not_same, which_before}
-use Rattle.vdb_coord.proofs.Members.{coord_equiv}
-use Rattle.vdb_coord.proofs.Walk.{inside_from, inside_parts, up_to_x}
-use Rattle.vdb_c.specs.BoxVoxels.{IsNextVoxel}
-use Rattle.vdb_c.specs.BoxWrites.{dense, is_first, rank}
-use Rattle.vdb_c.specs.Elements.{are_apart, place}
-use Rattle.vdb_c.specs.declared.boxes.elements.Strides.{Strides}
+use Rattle.vdb_c.proofs.Common.{◌≡◌, ◌≢◌, add-one, ◌⊎◌, inl, inr, ◌+◌, ◌*◌, ◌<◌, ◌≤◌, ℕ, ℤ, pos, ◌+ℤ◌, ◌≤ℤ◌, ◌<ℤ◌, refl, sym, ap, ◌∙◌, subst, Bool, true, false, ◌&&◌, IsTrue, arith, tests, rules, int_le, Some, None, nat_le, nat_lt, int_gap, ints, suc-mul, mul-le, Box, coord, coord_eq, extent, is_inside, volume, IsBefore, Coord, before_not_same, coord_equiv, inside_from, inside_parts, up_to_x, IsNextVoxel, dense, is_first, rank, are_apart, place, Strides}
+use Rattle.std.proofs.Math.Nat.{mul_assoc, zero-mul}
+use Rattle.vdb_coord.proofs.BlockOrder.{before_not_past, which_before}
 use Rattle.vdb_c.proofs.Laid.{either_way}
 use Rattle.vdb_c.proofs.NextVoxels.{next_along_x, next_along_y, next_along_z, no_next}
 use Rattle.vdb_c.proofs.Places.{at_most, extent_is, place_at_most, positive, reached, same_place, strides}

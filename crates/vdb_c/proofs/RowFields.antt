@@ -1,24 +1,7 @@
 -- Fields that a call writes row by row.
-use Rattle.std.proofs.Common.{◌≡◌, ◌+◌, ◌*◌, ◌^◌, ◌<◌, ◌≤◌, inl, inr, refl, sym, ap, ◌∙◌, subst, true, IsTrue, ℕ, zero, suc, ℤ, pos, ◌+ℤ◌, ◌≤ℤ◌, ◌<ℤ◌, SFits, w32, to_z, of_z, arith}
-use Rattle.std.specs.Prelude.{Err, IsSome, Option, Some, None, int_le}
-use Rattle.std.specs.Int.{int_gap}
-use Rattle.std.proofs.lemmas.Int.{ints, to_z-of_z}
-use Rattle.std.proofs.Math.Nat.{suc-mul}
-use Rattle.std.proofs.Math.Numerals.{suc-eq-add-one}
-use Rattle.vdb_coord.specs.Space.{Box, coord, is_inside}
-use Rattle.vdb_coord.specs.Walk.{IsBefore, coordinates_after}
-use Rattle.vdb_coord.specs.declared.Coord.{Coord}
-use Rattle.vdb_coord.proofs.Walk.{inside_from, inside_parts}
-use Rattle.vdb_tree.specs.Field.{Field}
-use Rattle.vdb_tree.specs.declared.Write.{Write}
-use Rattle.vdb_tree.specs.declared.refusal.TreeRefusal.{TreeRefusal}
+use Rattle.vdb_c.proofs.Common.{◌≡◌, ◌+◌, ◌*◌, ◌^◌, ◌<◌, ◌≤◌, inl, inr, refl, sym, ap, ◌∙◌, subst, true, IsTrue, ℕ, zero, suc, ℤ, pos, ◌+ℤ◌, ◌≤ℤ◌, ◌<ℤ◌, SFits, w32, to_z, of_z, arith, Err, IsSome, Option, Some, None, int_le, int_gap, ints, to_z-of_z, suc-mul, suc-eq-add-one, Box, coord, is_inside, IsBefore, coordinates_after, Coord, inside_from, inside_parts, Field, Write, TreeRefusal, Scalar, along_z, dense, is_first, rank, with_writes, done, tree_code, are_apart, place, IsRefusedIn, after_writes, write_any, Strides}
 use Rattle.vdb_tree.specs.declared.refusal.TreeRefusal.TheVariants.{Memory, RootLimit}
-use Rattle.vdb_scene.specs.declared.scalar.Scalar.{Scalar}
-use Rattle.vdb_c.specs.BoxWrites.{along_z, dense, is_first, rank, with_writes}
-use Rattle.vdb_c.specs.Codes.{done, tree_code}
-use Rattle.vdb_c.specs.Elements.{are_apart, place}
-use Rattle.vdb_c.specs.Many.{IsRefusedIn, WritesFirstIn, after_writes, write_any}
-use Rattle.vdb_c.specs.declared.boxes.elements.Strides.{Strides}
+use Rattle.vdb_c.specs.Many.{WritesFirstIn}
 use Rattle.vdb_c.proofs.BoxFields.{writes_next}
 use Rattle.vdb_c.proofs.Places.{not_past_z, place_along_z, place_at_most, reached}
 use Rattle.vdb_c.proofs.NextVoxels.{nearer}

@@ -1,13 +1,5 @@
 -- Arrays that a call fills row by row.
-use Rattle.std.proofs.Common.{◌≡◌, ◌<ℤ◌, ◌+ℤ◌, pos, true, SFits, w32, to_z, of_z, ℕ, sym, ap, Bool, IsTrue, List, set, refl}
-use Rattle.std.specs.Prelude.{Some, None}
-use lib.Signed.{lt_z}
-use Rattle.std.proofs.lemmas.Int.{to_z-of_z}
-use Rattle.vdb_coord.specs.Space.{Box, coord, is_inside}
-use Rattle.vdb_coord.specs.declared.Coord.{Coord}
-use Rattle.vdb_c.specs.Elements.{IsLaid, are_apart, place}
-use Rattle.vdb_c.specs.BoxVoxels.{IsNextVoxel, IsUpTo}
-use Rattle.vdb_c.specs.declared.boxes.elements.Strides.{Strides}
+use Rattle.vdb_c.proofs.Common.{◌≡◌, ◌<ℤ◌, ◌+ℤ◌, pos, true, SFits, w32, to_z, of_z, ℕ, sym, ap, Bool, IsTrue, List, set, refl, Some, None, lt_z, to_z-of_z, Box, coord, is_inside, Coord, IsLaid, are_apart, place, IsNextVoxel, IsUpTo, Strides}
 use Rattle.vdb_c.proofs.Laid.{laid_none, laid_part, laid_voxel}
 use Rattle.vdb_c.proofs.NextVoxels.{Moves, below, moved_z, none, one_more, one_more_fits, up_to_min, up_to_next, with_voxel}
 

@@ -1,7 +1,5 @@
 -- Grids with equal trees.
-use Rattle.std.proofs.Common.{refl}
-use Rattle.vdb_scene.specs.Grids.{HasSameTree}
-use Rattle.vdb_scene.specs.declared.any_grid.AnyGrid.{AnyGrid}
+use Rattle.vdb_c.proofs.Common.{refl, HasSameTree, AnyGrid}
 use Rattle.vdb_scene.specs.declared.any_grid.AnyGrid.TheVariants.{Bool, I32, I64}
 
 -- a grid has its own tree

@@ -1,14 +1,11 @@
 -- A grid of a scene exchanged with that of a handle.
-use Rattle.std.proofs.Common.{◌≡◌, ap, inl, refl, List, ℕ, Bool, true, Some, None}
-use Rattle.std.specs.Prelude.{Option, if◌then◌else◌}
+use Rattle.vdb_c.proofs.Common.{◌≡◌, ap, inl, refl, List, ℕ, Bool, true, Some, None, Option, if◌then◌else◌, AnyGrid, Scene, done}
 use Rattle.std.specs.Map.{lookup}
 use Rattle.vdb_scene.specs.Doing.{PutsGrid, SwapsGrid}
 use Rattle.vdb_scene.specs.Names.{is_name}
 use Rattle.vdb_scene.specs.Scene.{is_named}
-use Rattle.vdb_scene.specs.declared.any_grid.AnyGrid.{AnyGrid}
 use Rattle.vdb_scene.specs.declared.grid_entry.GridEntry.{GridEntry}
-use Rattle.vdb_scene.specs.declared.scene.Scene.{Scene}
-use Rattle.vdb_c.specs.Codes.{done, no_grid}
+use Rattle.vdb_c.specs.Codes.{no_grid}
 use Rattle.vdb_c.specs.Scenes.{IsSwapped, OnFound}
 
 module _ (s t : Scene) (name : List ℕ) (was is : AnyGrid) where

@@ -1,13 +1,6 @@
 -- Calls on one voxel that the cached leaf of an accessor answers.
-use Rattle.std.proofs.Common.{◌≡◌, refl, ℕ}
-use Rattle.std.specs.Prelude.{Ok, Option, Some, None, IsSome}
-use Rattle.vdb_coord.specs.declared.Coord.{Coord}
-use Rattle.vdb_tree.specs.declared.Write.{Write}
-use Rattle.vdb_scene.specs.Grids.{grid_field, grid_root_limit}
-use Rattle.vdb_scene.specs.declared.any_grid.AnyGrid.{AnyGrid}
-use Rattle.vdb_scene.specs.declared.scalar.Scalar.{Scalar}
-use Rattle.vdb_c.specs.Calls.{IsWrittenBy, Writes}
-use Rattle.vdb_c.specs.Codes.{done}
+use Rattle.vdb_c.proofs.Common.{◌≡◌, refl, ℕ, Ok, Option, Some, None, IsSome, Coord, Write, grid_field, AnyGrid, Scalar, IsWrittenBy, Writes, done}
+use Rattle.vdb_scene.specs.Grids.{grid_root_limit}
 
 no_some : (A : Type 0) → IsSome {T = A} None → ⊥
 no_some A h = absurd cc

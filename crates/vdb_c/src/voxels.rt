@@ -117,14 +117,8 @@ pub extern "C" fn vdb_grid_set(
     let Some(grid) = handle.grid.grid_mut() else {
         return EMPTY;
     };
-    if set_near::<false>(
-        grid,
-        number,
-        Coord { x, y, z },
-        given,
-        is_on(active),
-        &mut handle.steps,
-    ) {
+    let at = Coord { x, y, z };
+    if set_near::<false>(grid, number, at, given, is_on(active), &mut handle.steps) {
         return DONE;
     }
     set_far(handle, number, x, y, z, given, active)
@@ -146,18 +140,12 @@ fn set_far(
     let Some(grid) = handle.grid.grid_mut() else {
         return EMPTY;
     };
-    if set_near::<true>(
-        grid,
-        number,
-        Coord { x, y, z },
-        given,
-        is_on(active),
-        &mut handle.steps,
-    ) {
+    let at = Coord { x, y, z };
+    if set_near::<true>(grid, number, at, given, is_on(active), &mut handle.steps) {
         return DONE;
     }
     let change = cell_write(grid.kind(), given, is_on(active));
-    write(grid, number, Coord { x, y, z }, change, &mut handle.steps)
+    write(grid, number, at, change, &mut handle.steps)
 }
 
 /// Sets the value of a voxel and keeps its state.

@@ -1,4 +1,5 @@
 -- Lemmas on the combined cells of two trees.
+mod Common
 pub mod Mixed
 pub mod MixWalks
 pub mod MixLeaves

@@ -1,29 +1,14 @@
 -- The combination in one block: a tile painted, or a leaf written whole.
-use Rattle.std.proofs.Common.{◌≡◌, refl, sym, ap, subst, ◌∙◌, ℕ, ◌+◌, ◌<◌, Bool, true, false, ◌||◌, arith, IsTrue}
-use Rattle.std.specs.Prelude.{Option, Some, if◌then◌else◌}
-use Rattle.std.specs.Option.{option_map}
-use Rattle.vdb_coord.specs.Blocks.{block_around, block_number, entries, node_bits, offset}
+use Rattle.vdb_composite.proofs.Common.{◌≡◌, refl, sym, ap, subst, ◌∙◌, ℕ, ◌+◌, ◌<◌, Bool, true, false, ◌||◌, arith, IsTrue, Option, Some, if◌then◌else◌, option_map, block_around, entries, node_bits, offset, Box, coord_eq, everywhere, is_inside, Bits, Coord, Leaf, coord_equiv, entries_is, offset_below, cell_in, entry_count, Cell, Field, fill, off, Adds, mixed_cell, Blend, Mix, Values, Replace, never}
+use Rattle.vdb_coord.specs.Blocks.{block_number}
 use Rattle.vdb_coord.specs.Boxes.{is_bounds}
-use Rattle.vdb_coord.specs.Space.{Box, coord_eq, everywhere, is_box, is_inside, is_within}
-use Rattle.vdb_coord.specs.declared.Bits.{Bits}
-use Rattle.vdb_coord.specs.declared.Coord.{Coord}
-use Rattle.vdb_coord.specs.declared.Level.TheVariants.{Leaf}
+use Rattle.vdb_coord.specs.Space.{is_box, is_within}
 use Rattle.vdb_coord.proofs.Boxes.{both}
 use Rattle.vdb_coord.proofs.Meeting.{within_each}
-use Rattle.vdb_coord.proofs.Members.{coord_equiv}
 use Rattle.vdb_coord.proofs.Nesting.{inside_numbered, number_in_block}
-use Rattle.vdb_coord.proofs.Positions.{entries_is, offset_below}
 use Rattle.vdb_coord.proofs.Walk.{min_inside}
-use Rattle.vdb_node.specs.Leaf.{cell_in, Leaf as LeafOf}
-use Rattle.vdb_node.specs.Nodes.{entry_count}
-use Rattle.vdb_value.specs.declared.Cell.{Cell}
-use Rattle.vdb_tree.specs.Field.{Field, fill, off}
+use Rattle.vdb_node.specs.Leaf.{Leaf as LeafOf}
 use Rattle.vdb_tree.specs.Leaves.{with_leaf}
-use Rattle.vdb_composite.specs.Mixes.{Adds, mixed_cell}
-use Rattle.vdb_value.specs.declared.blend.Blend.{Blend}
-use Rattle.vdb_composite.specs.declared.mix.Mix.{Mix}
-use Rattle.vdb_composite.specs.declared.mix.Mix.TheVariants.{Values, Replace}
-use Rattle.vdb_tree.proofs.Blocks.{never}
 use Rattle.vdb_tree.proofs.Constants.{one_cell}
 use Rattle.vdb_tree.proofs.Levels.{unlike_coords}
 use Rattle.vdb_composite.proofs.Mixed.{cell_of}

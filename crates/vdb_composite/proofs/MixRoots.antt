@@ -1,29 +1,13 @@
 -- Root blocks counted along a walk over the pairs of two trees.
-use Rattle.std.proofs.Common.{◌≡◌, ◌≢◌, ◌⊎◌, inl, inr, refl, sym, ap, subst, ◌∙◌, ℕ, ◌+◌, ◌<◌, ◌≤◌, Bool, true, false, not, List, [], ◌∷◌, length, arith, IsTrue}
-use Rattle.std.specs.Prelude.{Option, Some, None, IfSome}
+use Rattle.vdb_composite.proofs.Common.{◌≡◌, ◌≢◌, ◌⊎◌, inl, inr, refl, sym, ap, subst, ◌∙◌, ℕ, ◌+◌, ◌<◌, ◌≤◌, Bool, true, false, not, List, [], ◌∷◌, length, arith, IsTrue, Option, Some, None, is_lt, is_member, block, block_cmp, block_numbers, key, AreBits, ComesBefore, Box, coord_eq, everywhere, is_inside, Bits, Coord, Upper, not_true, coord_equiv, is_background, roots, Field, off, Layout, IsBackgroundInBoth, PassesPairs, TreePairWalk, YieldsPair, is_left, never, uniform_block, bool_cases, or_first, or_second}
+use Rattle.std.specs.Prelude.{IfSome}
 use Rattle.std.specs.List.{IsDistinct}
-use Rattle.std.specs.Ordering.{is_lt}
-use Rattle.std.specs.Set.{is_member}
-use Rattle.vdb_coord.specs.Blocks.{block, block_cmp, block_numbers, key}
-use Rattle.vdb_coord.specs.Entries.{AreBits}
-use Rattle.vdb_coord.specs.Order.{ComesBefore}
-use Rattle.vdb_coord.specs.Space.{Box, coord_eq, everywhere, is_inside}
-use Rattle.vdb_coord.specs.declared.Bits.{Bits}
-use Rattle.vdb_coord.specs.declared.Coord.{Coord}
-use Rattle.vdb_coord.specs.declared.Level.TheVariants.{Upper}
 use Rattle.vdb_coord.proofs.BlockOrder.{comes_on, contiguous}
-use Rattle.vdb_coord.proofs.Boxes.{not_true}
 use Rattle.vdb_coord.proofs.InRange.{number_in_range, numbered_in_range}
-use Rattle.vdb_coord.proofs.Members.{coord_equiv, coord_exact}
-use Rattle.vdb_tree.specs.ConstantBlocks.{is_background, roots}
-use Rattle.vdb_tree.specs.Field.{Field, off}
-use Rattle.vdb_tree.specs.Layout.{Layout}
-use Rattle.vdb_tree.specs.Pairs.{IsBackgroundInBoth, PassesPairs, TreePairWalk, YieldsPair}
-use Rattle.vdb_tree.specs.Parts.{is_left}
-use Rattle.vdb_tree.proofs.Blocks.{never, uniform_block, uniform_block_from}
-use Rattle.vdb_tree.proofs.Levels.{bool_cases}
+use Rattle.vdb_coord.proofs.Members.{coord_exact}
+use Rattle.vdb_tree.proofs.Blocks.{uniform_block_from}
 use Rattle.vdb_composite.proofs.MixWalks.{IsPassed, all_left, passed_end, passed_next}
-use Rattle.vdb_tree.proofs.Rooted.{one_more, or_cases, or_first, or_second, roots_at_least, roots_at_most}
+use Rattle.vdb_tree.proofs.Rooted.{one_more, or_cases, roots_at_least, roots_at_most}
 
 nothing_apart : IsDistinct coord_eq []
 unfolding IsDistinct

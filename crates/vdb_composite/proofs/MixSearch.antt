@@ -1,29 +1,13 @@
 -- A search in a block, by its tiles or voxel by voxel.
-use Rattle.std.proofs.Common.{◌≡◌, ◌≢◌, ◌⊎◌, inl, inr, refl, sym, ap, ◌∙◌, ℕ, ◌+◌, ◌<◌, ◌≤◌, Bool, true, false, not, arith, IsTrue}
-use Rattle.std.specs.Prelude.{Option, Some, None, IsSome, is_none}
-use Rattle.vdb_coord.specs.Blocks.{block_around, entries, offset}
-use Rattle.vdb_coord.specs.Space.{Box, is_inside}
-use Rattle.vdb_coord.specs.declared.Bits.{Bits}
-use Rattle.vdb_coord.specs.declared.Coord.{Coord}
-use Rattle.vdb_coord.specs.declared.Level.TheVariants.{Leaf}
+use Rattle.vdb_composite.proofs.Common.{◌≡◌, ◌≢◌, ◌⊎◌, inl, inr, sym, ap, ◌∙◌, ℕ, ◌+◌, ◌<◌, ◌≤◌, Bool, true, not, arith, IsTrue, Option, Some, block_around, entries, offset, Box, is_inside, Bits, Coord, Leaf, offset_below, Cell, Field, mixed_cell, Blend, Mix, never}
 use Rattle.vdb_coord.proofs.Loops.{corner}
 use Rattle.vdb_coord.proofs.Nesting.{corner_of_entry}
-use Rattle.vdb_coord.proofs.Positions.{offset_below}
-use Rattle.vdb_value.specs.declared.Cell.{Cell}
 use Rattle.vdb_tree.specs.ConstantBlocks.{cell_eq}
-use Rattle.vdb_tree.specs.Field.{Field}
-use Rattle.vdb_composite.specs.Mixes.{Meets, Misses, mixed_cell}
-use Rattle.vdb_value.specs.declared.blend.Blend.{Blend}
-use Rattle.vdb_composite.specs.declared.mix.Mix.{Mix}
+use Rattle.vdb_composite.specs.Mixes.{Meets, Misses}
 use Rattle.vdb_composite.specs.declared.search.Sought.{Sought}
-use Rattle.vdb_tree.proofs.Blocks.{never}
 use Rattle.vdb_composite.proofs.MixLeaves.{in_leaf_block}
 use Rattle.vdb_composite.proofs.Mixed.{some_same}
-use Rattle.vdb_tree.proofs.Uniform.{cell_exact, cell_itself}
-
-denied : (u : Bool) → not u ≡ false → u ≡ true
-denied true h = refl
-denied false h = cc
+use Rattle.vdb_tree.proofs.Uniform.{cell_itself}
 
 -- another cell is found by the test for equal ones
 pub is_other : {V : Type 0} (eq : V → V → Bool) (exact : (x y : V) → eq x y ≡ true → x ≡ y) (itself : (x : V) → eq x x ≡ true) (one cell : Cell V) → not (cell_eq eq one cell) ≡ true
@@ -31,18 +15,6 @@ pub is_other : {V : Type 0} (eq : V → V → Bool) (exact : (x y : V) → eq x 
 is_other eq exact itself one cell other e =
     let same = some_same one cell e in
     never (ap not (ap (cell_eq eq one) (sym same) ∙ cell_itself eq exact itself one)) other
-
-pub is_same : {V : Type 0} (eq : V → V → Bool) (exact : (x y : V) → eq x y ≡ true → x ≡ y) (itself : (x : V) → eq x x ≡ true) (one cell : Cell V) → not (cell_eq eq one cell) ≡ false
-    → ◌≡◌ {A = Option (Cell V)} (Some one) (Some cell)
-is_same eq exact itself one cell same = ap (λ (c : Cell _). Some c) (cell_exact eq exact itself one cell (denied (cell_eq eq one cell) same))
-
-pub is_nothing : {A : Type 0} (o : Option A) → is_none o ≡ true → o ≡ None
-is_nothing (Some x) h = cc
-is_nothing None h = refl
-
-pub is_something : {A : Type 0} (o : Option A) → is_none o ≡ false → IsSome o
-is_something (Some x) h = refl
-is_something None h = cc
 
 earlier_or_here : (a i : ℕ) → a < i + 1 → (a < i) ⊎ (a ≡ i)
 earlier_or_here a i h = grind arith

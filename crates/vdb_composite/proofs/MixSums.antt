@@ -1,27 +1,18 @@
 -- Whether some two values of two fields have no sum, and that some root block is background in both.
-use Rattle.std.proofs.Common.{◌≡◌, inl, inr, refl, sym, ap, ◌∙◌, ℕ, zero, suc, ◌+◌, ◌*◌, ◌<◌, ◌≤◌, pos, negsuc, Bool, true, false, not, ◌&&◌, ◌||◌, List, [], ◌∷◌, length, filter, arith, IsTrue}
+use Rattle.vdb_composite.proofs.Common.{◌≡◌, inl, inr, refl, sym, ap, ◌∙◌, ℕ, ◌+◌, ◌*◌, ◌<◌, ◌≤◌, Bool, true, false, not, ◌||◌, List, [], ◌∷◌, length, arith, IsTrue, Option, Some, None, IsSome, option_map, is_member, block, block_numbers, AreBits, coord_eq, everywhere, is_inside, Bits, Coord, Upper, coord_equiv, is_background, roots, Field, off, never, uniform_block, bool_cases, or_first, or_second}
+use Rattle.std.proofs.Common.{zero, suc, pos, negsuc, ◌&&◌, filter}
 use Rattle.std.proofs.Math.Nat.{mul-le-mul_left}
-use Rattle.std.specs.Prelude.{Option, Some, None, IsSome, is_none}
-use Rattle.std.specs.Option.{option_map}
+use Rattle.std.specs.Prelude.{is_none}
 use Rattle.std.specs.List.{list_all, list_any}
-use Rattle.std.specs.Set.{is_member}
-use Rattle.vdb_coord.specs.Blocks.{block, block_bits, block_numbers}
+use Rattle.vdb_coord.specs.Blocks.{block_bits}
 use Rattle.vdb_coord.specs.Components.{number_at}
-use Rattle.vdb_coord.specs.Entries.{AreBits}
-use Rattle.vdb_coord.specs.Space.{coord_eq, coordinates, everywhere, extent, is_inside, volume}
-use Rattle.vdb_coord.specs.declared.Bits.{Bits}
-use Rattle.vdb_coord.specs.declared.Coord.{Coord}
-use Rattle.vdb_coord.specs.declared.Level.TheVariants.{Upper}
+use Rattle.vdb_coord.specs.Space.{coordinates, extent, volume}
 use Rattle.vdb_coord.proofs.Coordinates.{all_coordinates, each_coordinate}
 use Rattle.vdb_coord.proofs.InRange.{corner_in_range, number_of_corner}
-use Rattle.vdb_coord.proofs.Members.{coord_equiv, member_coordinates}
+use Rattle.vdb_coord.proofs.Members.{member_coordinates}
 use Rattle.vdb_coord.proofs.Volume.{length_coordinates}
-use Rattle.vdb_tree.specs.ConstantBlocks.{is_background, roots}
-use Rattle.vdb_tree.specs.Field.{Field, lacks_sum, off}
-use Rattle.vdb_tree.proofs.Blocks.{never, uniform_block}
-use Rattle.vdb_tree.proofs.Levels.{bool_cases}
+use Rattle.vdb_tree.specs.Field.{lacks_sum}
 use Rattle.vdb_composite.proofs.Mixed.{cell_of}
-use Rattle.vdb_tree.proofs.Rooted.{or_first, or_second}
 
 -- ---- values without a sum
 

@@ -1,25 +1,8 @@
 -- What a walk over the pairs of two trees says of the combined tree, and of each coordinate.
-use Rattle.std.proofs.Common.{◌≡◌, inl, inr, refl, sym, ap, ◌∙◌, Bool, true, false, not, IsTrue}
-use Rattle.std.specs.Prelude.{Option, Some, None}
-use Rattle.std.specs.Ordering.{is_lt}
-use Rattle.vdb_coord.specs.Blocks.{block_cmp}
-use Rattle.vdb_coord.specs.Order.{ComesBefore}
-use Rattle.vdb_coord.specs.Space.{Box, everywhere, is_inside}
-use Rattle.vdb_coord.specs.declared.Bits.{Bits}
-use Rattle.vdb_coord.specs.declared.Coord.{Coord}
+use Rattle.vdb_composite.proofs.Common.{◌≡◌, inl, inr, refl, sym, ap, ◌∙◌, Bool, true, false, not, IsTrue, Option, Some, None, is_lt, block_cmp, ComesBefore, Box, everywhere, is_inside, Bits, Coord, not_true, Cell, Field, field, off, Layout, field_of, IsBackgroundInBoth, PassesPairs, TreePairWalk, YieldsPair, is_left, Adds, IsMixIn, mixed, mixed_cell, mixed_value, Blend, Mix, never, cell_inside, bool_cases}
 use Rattle.vdb_coord.proofs.BlockOrder.{not_before_min}
-use Rattle.vdb_coord.proofs.Boxes.{not_true}
-use Rattle.vdb_value.specs.declared.Cell.{Cell}
-use Rattle.vdb_tree.specs.Field.{Field, field, new, off}
-use Rattle.vdb_tree.specs.Layout.{Layout, cell_at, field_of}
-use Rattle.vdb_tree.specs.Pairs.{IsBackgroundInBoth, PassesPairs, TreePairWalk, YieldsPair}
-use Rattle.vdb_tree.specs.Parts.{is_left}
-use Rattle.vdb_composite.specs.Mixes.{Adds, IsMixIn, mixed, mixed_cell, mixed_value}
-use Rattle.vdb_value.specs.declared.blend.Blend.{Blend}
-use Rattle.vdb_composite.specs.declared.mix.Mix.{Mix}
-use Rattle.vdb_tree.proofs.Blocks.{never}
-use Rattle.vdb_tree.proofs.Fields.{cell_inside}
-use Rattle.vdb_tree.proofs.Levels.{bool_cases}
+use Rattle.vdb_tree.specs.Field.{new}
+use Rattle.vdb_tree.specs.Layout.{cell_at}
 use Rattle.vdb_composite.proofs.Mixed.{is_mixed, off_mixed}
 
 denied : (u : Bool) → not u ≡ false → u ≡ true

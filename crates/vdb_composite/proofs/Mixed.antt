@@ -1,27 +1,14 @@
 -- The combination of two fields: its cells, and when another field equals it.
-use Rattle.std.proofs.Common.{◌≡◌, refl, sym, ap, subst, ◌∙◌, Bool, ◌||◌, IsTrue}
-use Rattle.std.specs.Prelude.{Option, Some, None, IsSome, if◌then◌else◌}
-use Rattle.std.specs.Option.{option_map, unwrap_or}
-use Rattle.vdb_coord.specs.Space.{everywhere, is_inside}
-use Rattle.vdb_coord.specs.declared.Coord.{Coord}
-use Rattle.vdb_value.specs.declared.Cell.{Cell}
-use Rattle.vdb_tree.specs.Field.{Field, field, off}
-use Rattle.vdb_composite.specs.Mixes.{HasMix, IsMixIn, mixed, mixed_cell, mixed_value}
-use Rattle.vdb_value.specs.declared.blend.Blend.{Blend}
-use Rattle.vdb_composite.specs.declared.mix.Mix.{Mix}
-use Rattle.vdb_composite.specs.declared.mix.Mix.TheVariants.{Values, Replace}
-use Rattle.vdb_tree.proofs.Blocks.{never}
-use Rattle.vdb_tree.proofs.Fields.{cell_inside, same_cells}
+use Rattle.vdb_composite.proofs.Common.{◌≡◌, refl, sym, ap, subst, ◌∙◌, Bool, ◌||◌, IsTrue, Option, Some, None, IsSome, if◌then◌else◌, option_map, everywhere, is_inside, Coord, Cell, Field, field, off, IsMixIn, mixed, mixed_cell, mixed_value, Blend, Mix, Values, Replace, never, cell_inside}
+use Rattle.std.specs.Option.{unwrap_or}
+use Rattle.vdb_composite.specs.Mixes.{HasMix}
+use Rattle.vdb_tree.proofs.Fields.{same_cells}
 
 pub some_same : {A : Type 0} (x y : A) → ◌≡◌ {A = Option A} (Some x) (Some y) → x ≡ y
 some_same x y e = cc
 
 pub some_is : {A : Type 0} (o : Option A) (x : A) → o ≡ Some x → IsSome o
 some_is o x e = rw e refl
-
-pub none_isnt : {A : Type 0} (o : Option A) → o ≡ None → IsSome o → ⊥
-none_isnt (Some x) e h = cc
-none_isnt None e h = never refl h
 
 -- a cell of this state
 abbrev pub cell_of : {V : Type 0} → Bool → V → Cell V

@@ -1,22 +1,11 @@
 -- Block order: by keys and offsets, by the numbers of blocks, and along a box.
-use Rattle.std.proofs.Common.{◌≡◌, ◌⊎◌, inl, inr, ℕ, ℤ, ◌<◌, ◌≤◌, ◌≤ℤ◌, ◌<ℤ◌, Bool, true, false, ◌||◌, cond, List, [], ◌∷◌, Some, IsTrue, arith, ap, refl, subst, sym, ◌∙◌}
+use Rattle.vdb_coord.proofs.Common.{◌≡◌, ◌⊎◌, inl, inr, ℕ, ℤ, ◌<◌, ◌≤◌, ◌≤ℤ◌, ◌<ℤ◌, Bool, true, false, ◌||◌, cond, List, [], ◌∷◌, Some, IsTrue, arith, ap, refl, subst, sym, ◌∙◌, ints, AllByRecursion, filter, is_member, int_cmp, nat_cmp, ordering_then, Ordering, Less, Equal, Greater, block_bits, block_cmp, block_number, key, offset, ComesBefore, coordinates_past, Box, coord_cmp, coord_eq, coordinates, everywhere, is_inside, IsBefore, IsBlockBefore, Bits, Coord, Level, Leaf, Lower, Upper}
 use Rattle.std.specs.Cmp.{int_cmp_is, nat_cmp_is}
 use Rattle.std.proofs.lemmas.Cmp.{ranked, tied_itself}
-use Rattle.std.proofs.lemmas.Int.{ints}
-use Rattle.std.specs.List.{AllByRecursion, IsDistinct, filter}
-use Rattle.std.specs.Set.{is_member}
+use Rattle.std.specs.List.{IsDistinct}
 use Rattle.std.proofs.lemmas.List.Sums.{length-filter}
-use Rattle.std.specs.Ordering.{int_cmp, is_lt, nat_cmp, ordering_reverse, ordering_then}
-use Rattle.std.specs.declared.cmp.Ordering.{Ordering}
-use Rattle.std.specs.declared.cmp.Ordering.TheVariants.{Less, Equal, Greater}
-use Rattle.vdb_coord.specs.Blocks.{block_bits, block_cmp, block_number, is_past, key, offset}
-use Rattle.vdb_coord.specs.Order.{ComesBefore, coordinates_past}
-use Rattle.vdb_coord.specs.Space.{Box, coord_cmp, coord_eq, coordinates, everywhere, is_inside}
-use Rattle.vdb_coord.specs.Walk.{IsBefore, IsBlockBefore}
-use Rattle.vdb_coord.specs.declared.Bits.{Bits}
-use Rattle.vdb_coord.specs.declared.Coord.{Coord}
-use Rattle.vdb_coord.specs.declared.Level.{Level}
-use Rattle.vdb_coord.specs.declared.Level.TheVariants.{Leaf, Lower, Upper}
+use Rattle.std.specs.Ordering.{is_lt, ordering_reverse}
+use Rattle.vdb_coord.specs.Blocks.{is_past}
 use Rattle.vdb_coord.proofs.Boxes.{both, not_true}
 use Rattle.vdb_coord.proofs.CountBounds.{count_at_least, member_passing}
 use Rattle.vdb_coord.proofs.Counts.{distinct_filter}

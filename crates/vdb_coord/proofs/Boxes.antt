@@ -1,11 +1,7 @@
 -- What two boxes have in common.
-use Rattle.std.proofs.Common.{◌≡◌, ℤ, Bool, true, false, ◌&&◌, if◌then◌else◌, int_le, Some, None, arith, refl, ap, sym, ◌∙◌}
-use Rattle.std.specs.Prelude.{IfSome, IfNone}
-use Rattle.std.specs.Int.{int_max, int_min}
-use Rattle.std.proofs.lemmas.Int.{ints}
-use Rattle.vdb_coord.specs.Boxes.{box_of, overlap}
-use Rattle.vdb_coord.specs.Space.{Box, is_between, is_box, is_inside}
-use Rattle.vdb_coord.specs.declared.Coord.{Coord}
+use Rattle.vdb_coord.proofs.Common.{◌≡◌, ℤ, Bool, true, false, ◌&&◌, int_le, Some, None, arith, refl, ap, sym, ◌∙◌, IfSome, int_max, int_min, ints, box_of, overlap, Box, is_between, is_box, is_inside, Coord}
+use Rattle.std.proofs.Common.{if◌then◌else◌}
+use Rattle.std.specs.Prelude.{IfNone}
 
 -- ---- booleans
 

@@ -1,15 +1,10 @@
 -- Values worked out by hand, found by computing.
-use Rattle.std.proofs.Common.{refl, rules, ◌≡◌, ◌^◌, pos, negsuc, length, Some, None}
-use Rattle.std.specs.declared.cmp.Ordering.TheVariants.{Less, Greater}
+use Rattle.vdb_coord.proofs.Common.{refl, rules, ◌≡◌, ◌^◌, pos, negsuc, length, Some, None, Less, Greater, coord, everywhere, volume, offset, key, block_around, block_cmp, block_numbers, sub_block, overlap, AreBits, Bits, Leaf, Lower, Upper}
 use Rattle.vdb_coord.specs.Faces.{neighbours}
-use Rattle.vdb_coord.specs.Space.{coord, coordinates, everywhere, volume}
-use Rattle.vdb_coord.specs.Blocks.{vdb, offset, key, block_around, block_cmp, block_numbers, sub_block}
-use Rattle.vdb_coord.specs.Boxes.{overlap}
-use Rattle.vdb_coord.specs.Entries.{AreBits}
+use Rattle.vdb_coord.specs.Space.{coordinates}
+use Rattle.vdb_coord.specs.Blocks.{vdb}
 use Rattle.vdb_coord.specs.Faces.{neighbour}
 use Rattle.vdb_coord.specs.declared.face.Face.TheVariants.{PlusX, MinusZ}
-use Rattle.vdb_coord.specs.declared.Bits.{Bits}
-use Rattle.vdb_coord.specs.declared.Level.TheVariants.{Leaf, Lower, Upper}
 
 leaf_83 : offset vdb Leaf (coord (pos 1) (pos 2) (pos 3)) ≡ 83
 leaf_83 = refl

@@ -1,11 +1,7 @@
 -- The coordinates of a box are those inside it.
-use Rattle.std.proofs.Common.{inl, inr, ◌⊎◌, ◌≡◌, refl, sym, ap, subst, ◌∙◌, ℕ, zero, suc, ◌+◌, ◌<◌, ◌≤◌, ℤ, pos, negsuc, ◌+ℤ◌, Bool, true, false, ◌&&◌, List, [], ◌∷◌, flat_map, IsTrue, int_le, arith}
-use Rattle.std.specs.List.{list_all, range_with_len}
-use Rattle.std.specs.Int.{int_gap}
-use Rattle.std.proofs.lemmas.Int.{ints}
+use Rattle.vdb_coord.proofs.Common.{inl, inr, ◌⊎◌, ◌≡◌, refl, sym, ap, subst, ◌∙◌, ℕ, zero, suc, ◌+◌, ◌<◌, ◌≤◌, ℤ, pos, negsuc, ◌+ℤ◌, Bool, true, false, ◌&&◌, List, [], ◌∷◌, flat_map, IsTrue, int_le, arith, list_all, range_with_len, int_gap, ints, Box, coord, extent, is_between, is_inside, range, Coord}
 use Rattle.std.proofs.lemmas.List.Folds.{list_all-append, list_all-map}
-use Rattle.vdb_coord.specs.Space.{Box, coord, coordinates, extent, is_between, is_inside, range}
-use Rattle.vdb_coord.specs.declared.Coord.{Coord}
+use Rattle.vdb_coord.specs.Space.{coordinates}
 
 -- ---- booleans
 

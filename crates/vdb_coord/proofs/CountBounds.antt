@@ -1,10 +1,6 @@
 -- At most or at least how many coordinates of a box pass a test, by a list of coordinates.
-use Rattle.std.proofs.Common.{◌≡◌, ap, sym, ◌∙◌, ◌≤◌, Bool, true, ◌&&◌, List, length, IsTrue}
-use Rattle.std.specs.List.{IsDistinct, filter}
-use Rattle.std.specs.Set.{is_member}
-use Rattle.std.proofs.lemmas.Map.Made.{is_member-filter, length-le_from_is_member}
-use Rattle.vdb_coord.specs.Space.{Box, coord_eq, coordinates, is_inside}
-use Rattle.vdb_coord.specs.declared.Coord.{Coord}
+use Rattle.vdb_coord.proofs.Common.{◌≡◌, ap, sym, ◌∙◌, ◌≤◌, Bool, true, ◌&&◌, List, length, IsTrue, IsDistinct, filter, is_member, is_member-filter, Box, coord_eq, coordinates, is_inside, Coord}
+use Rattle.std.proofs.lemmas.Map.Made.{length-le_from_is_member}
 use Rattle.vdb_coord.proofs.Boxes.{and_true, both}
 use Rattle.vdb_coord.proofs.Counts.{distinct_filter}
 use Rattle.vdb_coord.proofs.Distinct.{distinct_coordinates}

@@ -1,16 +1,8 @@
 -- How many coordinates of a box pass a test.
-use Rattle.std.proofs.Common.{◌≡◌, sym, ap, ◌∙◌, ℕ, ℤ, Bool, true, false, cond, ◌&&◌, int_le, List, [], ◌∷◌, length}
-use Rattle.std.specs.List.{AllByRecursion, IsDistinct, filter}
-use Rattle.std.specs.Set.{is_member}
-use Rattle.std.proofs.lemmas.Map.Made.{is_member-filter, length-from_same_keys}
-use Rattle.vdb_coord.specs.Blocks.{block, block_bits, block_numbers}
-use Rattle.vdb_coord.specs.Boxes.{meets}
-use Rattle.vdb_coord.specs.Components.{number_at}
-use Rattle.vdb_coord.specs.Entries.{blocks_meeting, numbers_over}
-use Rattle.vdb_coord.specs.Space.{Box, coord_eq, coordinates, everywhere, is_between, is_inside, is_within, volume}
-use Rattle.vdb_coord.specs.declared.Bits.{Bits}
-use Rattle.vdb_coord.specs.declared.Coord.{Coord}
-use Rattle.vdb_coord.specs.declared.Level.{Level}
+use Rattle.vdb_coord.proofs.Common.{◌≡◌, sym, ap, ◌∙◌, ℕ, ℤ, Bool, true, false, cond, ◌&&◌, int_le, List, [], ◌∷◌, length, AllByRecursion, filter, is_member, is_member-filter, block, block_bits, block_numbers, meets, number_at, numbers_over, Box, coord_eq, coordinates, everywhere, is_between, is_inside, is_within, volume, Bits, Coord, Level}
+use Rattle.std.specs.List.{IsDistinct}
+use Rattle.std.proofs.lemmas.Map.Made.{length-from_same_keys}
+use Rattle.vdb_coord.specs.Entries.{blocks_meeting}
 use Rattle.vdb_coord.proofs.Boxes.{and_true, both, le_through, same_truth, three, together}
 use Rattle.vdb_coord.proofs.Distinct.{distinct_coordinates}
 use Rattle.vdb_coord.proofs.Meeting.{meets_block, number_le}

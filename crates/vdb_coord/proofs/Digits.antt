@@ -1,13 +1,7 @@
 -- One component of a coordinate: its blocks and its entries in them.
-use Rattle.std.proofs.Common.{◌≡◌, ℕ, ℤ, pos, negsuc, suc, ◌+◌, ◌-◌, ◌*◌, ◌<◌, ◌≤◌, ◌%◌, ◌/◌, ◌^◌, ◌+ℤ◌, ◌*ℤ◌, ◌≤ℤ◌, true, SFits, w32, arith, ap, sym, subst, ◌∙◌, mul_comm}
-use Rattle.std.specs.Int.{int_gap}
-use lib.IntN.{neg_ℤ}
-use Rattle.std.proofs.Math.Nat.{suc-mul, mod-lt, div-one, div-mul-le_self, mul-le-mul_right}
-use Rattle.std.proofs.Math.Pow.{pow_mono}
-use Rattle.std.proofs.lemmas.Int.{ints}
-use Rattle.std.proofs.lemmas.Nat.{div-add-mod', div_below, pow_pos, pow-add}
-use Rattle.vdb_coord.specs.Components.{digit, first_of, last_of, number_at}
-use Rattle.vdb_coord.specs.Space.{is_between}
+use Rattle.vdb_coord.proofs.Common.{◌≡◌, ℕ, ℤ, pos, negsuc, suc, ◌+◌, ◌-◌, ◌*◌, ◌<◌, ◌≤◌, ◌%◌, ◌/◌, ◌^◌, ◌+ℤ◌, ◌*ℤ◌, ◌≤ℤ◌, true, SFits, w32, arith, ap, sym, subst, ◌∙◌, int_gap, neg_ℤ, suc-mul, mod-lt, div-mul-le_self, mul-le-mul_right, pow_mono, ints, div-add-mod', div_below, pow_pos, pow-add, digit, first_of, last_of, number_at, is_between}
+use Rattle.std.proofs.Common.{mul_comm}
+use Rattle.std.proofs.Math.Nat.{div-one}
 use Rattle.vdb_coord.proofs.Division.{entry_start, parts, quotient, quotient_mono, quotient_of, rest, rest_below, rest_of}
 
 -- ---- blocks of b entries of a numbers each

@@ -1,13 +1,10 @@
 -- The list of a box's coordinates has each of them once.
-use Rattle.std.proofs.Common.{◌≡◌, refl, sym, subst, ℕ, zero, suc, ◌+◌, ◌<◌, ℤ, pos, ◌+ℤ◌, Bool, false, List, [], ◌∷◌, ◌++◌, map, flat_map, nat_eq, arith}
-use Rattle.std.specs.List.{AllByRecursion, IsDistinct, range_with_len}
-use Rattle.std.specs.Ordering.{int_cmp, int_eq, is_eq, ordering_then}
-use Rattle.std.specs.declared.cmp.Ordering.{Ordering}
-use Rattle.std.specs.declared.cmp.Ordering.TheVariants.{Less, Equal, Greater}
-use Rattle.std.proofs.lemmas.Int.{ints}
+use Rattle.vdb_coord.proofs.Common.{◌≡◌, refl, sym, subst, ℕ, zero, suc, ◌+◌, ◌<◌, ℤ, pos, ◌+ℤ◌, Bool, false, List, [], ◌∷◌, map, flat_map, arith, AllByRecursion, range_with_len, int_cmp, is_eq, ordering_then, Ordering, Less, Equal, Greater, ints, Box, coord, coord_eq, extent, range, Coord}
+use Rattle.std.proofs.Common.{◌++◌, nat_eq}
+use Rattle.std.specs.List.{IsDistinct}
+use Rattle.std.specs.Ordering.{int_eq}
 use Rattle.std.proofs.lemmas.Bool.Decides.{nat_tests}
-use Rattle.vdb_coord.specs.Space.{Box, coord, coord_eq, coordinates, extent, range}
-use Rattle.vdb_coord.specs.declared.Coord.{Coord}
+use Rattle.vdb_coord.specs.Space.{coordinates}
 
 -- ---- each element of a list
 

@@ -1,11 +1,9 @@
 -- Division of whole numbers by a positive one, rounding down.
-use Rattle.std.proofs.Common.{◌≡◌, ℕ, ℤ, pos, negsuc, suc, ◌+◌, ◌-◌, ◌*◌, ◌<◌, ◌≤◌, ◌%◌, ◌/◌, ◌+ℤ◌, ◌*ℤ◌, ◌≤ℤ◌, arith, ap, sym, ◌∙◌, mul_assoc}
+use Rattle.vdb_coord.proofs.Common.{◌≡◌, ℕ, ℤ, pos, negsuc, suc, ◌+◌, ◌-◌, ◌*◌, ◌<◌, ◌≤◌, ◌%◌, ◌/◌, ◌+ℤ◌, ◌*ℤ◌, ◌≤ℤ◌, arith, ap, sym, ◌∙◌, unsigned_abs, neg_ℤ, mod-lt, suc-mul, div-mul-le_self, ints, div-add-mod'}
+use Rattle.std.proofs.Common.{mul_assoc}
 use Rattle.std.specs.Int.{int_div_euclid, int_rem_euclid}
-use Rattle.std.specs.Prelude.{unsigned_abs}
-use lib.IntN.{neg_ℤ}
-use Rattle.std.proofs.Math.Nat.{mod-lt, suc-mul, add-mul, le-div_iff_mul-le, div-mul-le_self}
-use Rattle.std.proofs.lemmas.Int.{ints}
-use Rattle.std.proofs.lemmas.Nat.{div-add-mod', div-mul-add, mod-mul-add}
+use Rattle.std.proofs.Math.Nat.{add-mul, le-div_iff_mul-le}
+use Rattle.std.proofs.lemmas.Nat.{div-mul-add, mod-mul-add}
 
 -- the quotient, and what is left
 abbrev pub quotient : ℕ → ℤ → ℤ

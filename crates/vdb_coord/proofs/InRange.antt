@@ -1,14 +1,5 @@
 -- Blocks and the range of coordinates: a block of a coordinate in range lies in the range.
-use Rattle.std.proofs.Common.{◌≡◌, ℕ, ℤ, pos, negsuc, ◌≤◌, Bool, true, IsTrue, SFits, w32, arith, sym, subst}
-use Rattle.std.proofs.lemmas.Int.{ints}
-use Rattle.vdb_coord.specs.Blocks.{block, block_bits, block_number, block_numbers, key}
-use Rattle.vdb_coord.specs.Components.{first_of, last_of, number_at}
-use Rattle.vdb_coord.specs.Entries.{AreBits}
-use Rattle.vdb_coord.specs.Space.{everywhere, is_between, is_inside}
-use Rattle.vdb_coord.specs.declared.Bits.{Bits}
-use Rattle.vdb_coord.specs.declared.Coord.{Coord}
-use Rattle.vdb_coord.specs.declared.Level.{Level}
-use Rattle.vdb_coord.specs.declared.Level.TheVariants.{Leaf, Lower, Upper}
+use Rattle.vdb_coord.proofs.Common.{◌≡◌, ℕ, ℤ, pos, negsuc, ◌≤◌, Bool, true, IsTrue, SFits, w32, arith, sym, subst, ints, block, block_bits, block_number, block_numbers, key, first_of, last_of, number_at, AreBits, everywhere, is_between, is_inside, Bits, Coord, Level, Leaf, Lower, Upper}
 use Rattle.vdb_coord.proofs.Boxes.{three, together}
 use Rattle.vdb_coord.proofs.Digits.{inside_own}
 use Rattle.vdb_coord.proofs.Meeting.{number_of_first, number_within, numbered_fits}

@@ -1,19 +1,6 @@
 -- Which blocks and entries have a number in a range.
-use Rattle.std.proofs.Common.{◌≡◌, ℕ, ℤ, pos, negsuc, suc, ◌-◌, ◌*◌, ◌≤◌, ◌^◌, ◌+ℤ◌, ◌*ℤ◌, ◌≤ℤ◌, Bool, true, ◌&&◌, int_le, SFits, w32, arith, ap, sym, subst, ◌∙◌, refl}
-use lib.IntN.{neg_ℤ}
-use Rattle.std.proofs.Math.Nat.{mul-le-mul_right}
-use Rattle.std.proofs.lemmas.Int.{ints}
-use Rattle.std.proofs.lemmas.Nat.{pow_pos}
-use Rattle.vdb_coord.specs.Blocks.{block, block_bits, block_number, block_numbers}
-use Rattle.vdb_coord.specs.Boxes.{meets}
-use Rattle.vdb_coord.specs.Components.{first_of, last_of, number_at}
-use Rattle.vdb_coord.specs.Entries.{numbers_over}
-use Rattle.vdb_coord.specs.Space.{Box, everywhere, is_between, is_box, is_inside, is_within}
-use Rattle.vdb_coord.specs.declared.Bits.{Bits}
-use Rattle.vdb_coord.specs.declared.Coord.{Coord}
-use Rattle.vdb_coord.specs.declared.Level.{Level}
+use Rattle.vdb_coord.proofs.Common.{◌≡◌, ℕ, ℤ, pos, negsuc, suc, ◌-◌, ◌*◌, ◌≤◌, ◌^◌, ◌+ℤ◌, ◌*ℤ◌, ◌≤ℤ◌, Bool, true, ◌&&◌, int_le, SFits, w32, arith, ap, sym, subst, ◌∙◌, refl, neg_ℤ, mul-le-mul_right, ints, pow_pos, block, block_bits, block_number, block_numbers, meets, first_of, last_of, number_at, numbers_over, Box, everywhere, is_between, is_box, is_inside, is_within, Bits, Coord, Level, int_max}
 use Rattle.vdb_coord.proofs.Boxes.{and_true, both, le_through, same_truth, three, together}
-use Rattle.std.specs.Int.{int_max}
 use Rattle.vdb_coord.proofs.Digits.{first_fits, inside_own, last_fits, number_mono}
 use Rattle.vdb_coord.proofs.Division.{quotient_of}
 

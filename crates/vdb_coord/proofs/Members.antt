@@ -1,14 +1,9 @@
 -- The order of coordinates, and the members of a box.
-use Rattle.std.proofs.Common.{◌≡◌, refl, sym, ap, ◌∙◌, ℤ, Bool, true, false, not, ◌&&◌, ◌||◌, List, [], ◌∷◌}
-use Rattle.std.specs.List.{list_all, list_any}
-use Rattle.std.specs.Set.{is_member}
-use Rattle.std.specs.Cmp.{IsEquivalence, IsTotalOrder, int_cmp_total, int_ranked}
-use Rattle.std.proofs.lemmas.Cmp.{eq_by_cmp_equiv, on_total, then_total}
-use Rattle.std.specs.Ordering.{int_cmp, is_eq, ordering_then}
-use Rattle.std.specs.declared.cmp.Ordering.{Ordering}
-use Rattle.std.specs.declared.cmp.Ordering.TheVariants.{Less, Equal, Greater}
-use Rattle.vdb_coord.specs.Space.{Box, coord_cmp, coord_eq, coordinates, is_inside}
-use Rattle.vdb_coord.specs.declared.Coord.{Coord}
+use Rattle.vdb_coord.proofs.Common.{◌≡◌, refl, sym, ap, ◌∙◌, ℤ, Bool, true, false, ◌&&◌, ◌||◌, List, [], ◌∷◌, list_all, is_member, IsTotalOrder, on_total, then_total, int_cmp, is_eq, ordering_then, Ordering, Less, Equal, Greater, Box, coord_cmp, coord_eq, coordinates, is_inside, Coord}
+use Rattle.std.proofs.Common.{not}
+use Rattle.std.specs.List.{list_any}
+use Rattle.std.specs.Cmp.{IsEquivalence, int_cmp_total, int_ranked}
+use Rattle.std.proofs.lemmas.Cmp.{eq_by_cmp_equiv}
 use Rattle.vdb_coord.proofs.Coordinates.{all_coordinates, each_coordinate}
 
 pub coord_total : IsTotalOrder coord_cmp

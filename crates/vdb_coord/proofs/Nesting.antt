@@ -1,21 +1,8 @@
 -- Blocks, entries and offsets of a tree's levels determine each other.
-use Rattle.std.proofs.Common.{◌≡◌, ℕ, ℤ, pos, ◌+◌, ◌-◌, ◌*◌, ◌<◌, ◌%◌, ◌/◌, ◌^◌, ◌+ℤ◌, ◌*ℤ◌, Bool, true, arith, ap, sym, subst, ◌∙◌, refl}
-use Rattle.std.specs.Cmp.{IsTotalOrder, nat_cmp_total}
+use Rattle.vdb_coord.proofs.Common.{◌≡◌, ℕ, ℤ, pos, ◌+◌, ◌-◌, ◌*◌, ◌<◌, ◌%◌, ◌/◌, ◌^◌, ◌+ℤ◌, ◌*ℤ◌, Bool, true, arith, ap, sym, subst, ◌∙◌, refl, IsTotalOrder, is_eq, nat_cmp, ordering_then, Ordering, Less, Equal, Greater, on_total, then_total, ints, block, block_around, block_bits, block_cmp, block_number, entries, entry_bits, key, node_bits, offset, sub_block, digit, first_of, last_of, number_at, entry_number, Box, coord, coord_cmp, is_between, is_inside, Bits, Coord, Level, Leaf, Lower, Upper}
+use Rattle.std.specs.Cmp.{nat_cmp_total}
 use Rattle.std.specs.FinMap.{nat_cmp-IsAntisymmetric}
-use Rattle.std.specs.Ordering.{is_eq, nat_cmp, ordering_then}
-use Rattle.std.specs.declared.cmp.Ordering.{Ordering}
-use Rattle.std.specs.declared.cmp.Ordering.TheVariants.{Less, Equal, Greater}
-use Rattle.std.proofs.lemmas.Cmp.{on_total, then_total}
-use Rattle.std.proofs.lemmas.Int.{ints}
 use Rattle.std.proofs.lemmas.Nat.{same_from_place}
-use Rattle.vdb_coord.specs.Blocks.{block, block_around, block_bits, block_cmp, block_number, entries, entry_bits, key, node_bits, offset, sub_block}
-use Rattle.vdb_coord.specs.Components.{digit, first_of, last_of, number_at}
-use Rattle.vdb_coord.specs.Entries.{entry_number}
-use Rattle.vdb_coord.specs.Space.{Box, coord, coord_cmp, is_between, is_inside}
-use Rattle.vdb_coord.specs.declared.Bits.{Bits}
-use Rattle.vdb_coord.specs.declared.Coord.{Coord}
-use Rattle.vdb_coord.specs.declared.Level.{Level}
-use Rattle.vdb_coord.specs.declared.Level.TheVariants.{Leaf, Lower, Upper}
 use Rattle.vdb_coord.proofs.Boxes.{three, together}
 use Rattle.vdb_coord.proofs.Division.{rest, rest_of}
 use Rattle.vdb_coord.proofs.Digits.{digit_below, digit_is, first_of_entry, inside_own, number_inside, number_of_entry, number_split, number_up, number_zero, same_entry}

@@ -1,16 +1,7 @@
 -- The next coordinate of a box in block order.
-use Rattle.std.proofs.Common.{◌≡◌, ◌⊎◌, inl, inr, ℤ, ◌<◌, ◌≤ℤ◌, true, ◌&&◌, arith, refl, sym, ◌∙◌, Some, None, IsTrue}
-use Rattle.std.specs.Prelude.{IfSome, Option}
-use Rattle.std.specs.Int.{int_max}
-use Rattle.std.proofs.lemmas.Int.{ints}
-use Rattle.vdb_coord.specs.Blocks.{block_around, block_number}
-use Rattle.vdb_coord.specs.Order.{ComesBefore, IsFirstInBlock, IsFirstPast, IsNextCoord, IsUpToBlock, coordinates_past}
-use Rattle.vdb_coord.specs.Space.{Box, coord, everywhere, is_inside}
-use Rattle.vdb_coord.specs.Walk.{IsBlockBefore, IsNextBlock}
-use Rattle.vdb_coord.specs.declared.Bits.{Bits}
-use Rattle.vdb_coord.specs.declared.Coord.{Coord}
-use Rattle.vdb_coord.specs.declared.Level.{Level}
-use Rattle.vdb_coord.specs.declared.Level.TheVariants.{Leaf, Lower, Upper}
+use Rattle.vdb_coord.proofs.Common.{◌≡◌, ◌⊎◌, inl, inr, ℤ, ◌<◌, ◌≤ℤ◌, true, ◌&&◌, arith, refl, sym, ◌∙◌, Some, None, IsTrue, IfSome, int_max, ints, block_around, block_number, ComesBefore, IsFirstInBlock, coordinates_past, Box, coord, everywhere, is_inside, IsBlockBefore, IsNextBlock, Bits, Coord, Level, Leaf, Lower, Upper}
+use Rattle.std.specs.Prelude.{Option}
+use Rattle.vdb_coord.specs.Order.{IsFirstPast, IsNextCoord, IsUpToBlock}
 use Rattle.vdb_coord.proofs.BlockOrder.{AreAll, AreNone, InLower, InUpper, IsLowerEarlier, IsNested, before_not_past, before_not_same, fewer_past, first_or_same, leaf_nested, lower_nested, moved_before, moved_past, not_both, not_same, upper_nested, which_before}
 use Rattle.vdb_coord.proofs.Boxes.{and_true, both}
 use Rattle.vdb_coord.proofs.Nesting.{inside_around, inside_numbered, lower_from_leaf, number_in_block, upper_from_lower}

@@ -1,15 +1,5 @@
 -- In one block of a level, offsets are ordered as the entries are.
-use Rattle.std.proofs.Common.{◌≡◌, ◌⊎◌, inl, inr, ℕ, ℤ, pos, suc, ◌+◌, ◌*◌, ◌<◌, ◌≤◌, ◌^◌, ◌+ℤ◌, ◌*ℤ◌, ◌<ℤ◌, arith, ap, subst}
-use Rattle.std.proofs.lemmas.Int.{ints}
-use Rattle.std.proofs.Math.Nat.{mul-le-mul_right}
-use Rattle.vdb_coord.specs.Blocks.{block_number, entry_bits, node_bits, offset}
-use Rattle.vdb_coord.specs.Components.{digit, number_at}
-use Rattle.vdb_coord.specs.Entries.{entry_number}
-use Rattle.vdb_coord.specs.Space.{coord}
-use Rattle.vdb_coord.specs.Walk.{IsBefore}
-use Rattle.vdb_coord.specs.declared.Bits.{Bits}
-use Rattle.vdb_coord.specs.declared.Coord.{Coord}
-use Rattle.vdb_coord.specs.declared.Level.{Level}
+use Rattle.vdb_coord.proofs.Common.{◌≡◌, ◌⊎◌, inl, inr, ℕ, ℤ, pos, suc, ◌+◌, ◌*◌, ◌<◌, ◌≤◌, ◌^◌, ◌+ℤ◌, ◌*ℤ◌, ◌<ℤ◌, arith, ap, subst, ints, mul-le-mul_right, block_number, entry_bits, node_bits, offset, digit, number_at, entry_number, coord, IsBefore, Bits, Coord, Level}
 use Rattle.vdb_coord.proofs.Digits.{digit_below, number_split}
 use Rattle.vdb_coord.proofs.Positions.{block_bits_split, joined, offset_is}
 

@@ -1,16 +1,7 @@
 -- Offsets in the nodes of a tree's levels.
-use Rattle.std.proofs.Common.{◌≡◌, ℕ, ℤ, pos, suc, ◌+◌, ◌-◌, ◌*◌, ◌<◌, ◌≤◌, ◌%◌, ◌/◌, ◌^◌, ◌+ℤ◌, zero-add, arith, ap, sym, subst, ◌∙◌, refl}
-use Rattle.std.proofs.Math.Nat.{div-div-eq-div-mul, mod-lt, mul-le-mul_left, mul-le-mul_right, pow-suc, pow-zero}
-use Rattle.std.proofs.Math.Pow.{pow_mono}
-use Rattle.std.proofs.lemmas.Nat.{div-add-mod', div_below, pow-add, pow_pos}
-use Rattle.vdb_coord.specs.Blocks.{block_around, block_bits, entries, entry_bits, node_bits, offset, sub_block}
-use Rattle.vdb_coord.specs.Components.{digit, first_of, number_at}
-use Rattle.vdb_coord.specs.Entries.{AreBits}
-use Rattle.vdb_coord.specs.Space.{Box, coord}
-use Rattle.vdb_coord.specs.declared.Bits.{Bits}
-use Rattle.vdb_coord.specs.declared.Coord.{Coord}
-use Rattle.vdb_coord.specs.declared.Level.{Level}
-use Rattle.vdb_coord.specs.declared.Level.TheVariants.{Leaf, Lower, Upper}
+use Rattle.vdb_coord.proofs.Common.{◌≡◌, ℕ, ℤ, pos, suc, ◌+◌, ◌-◌, ◌*◌, ◌<◌, ◌≤◌, ◌%◌, ◌/◌, ◌^◌, ◌+ℤ◌, arith, ap, sym, subst, ◌∙◌, refl, div-div-eq-div-mul, mod-lt, mul-le-mul_right, pow_mono, div-add-mod', div_below, pow-add, pow_pos, block_around, block_bits, entries, entry_bits, node_bits, offset, sub_block, digit, first_of, number_at, AreBits, Box, coord, Bits, Coord, Level, Leaf, Lower, Upper}
+use Rattle.std.proofs.Common.{zero-add}
+use Rattle.std.proofs.Math.Nat.{mul-le-mul_left, pow-suc, pow-zero}
 use Rattle.vdb_coord.proofs.Division.{rest}
 use Rattle.vdb_coord.proofs.Digits.{digit_below}
 
@@ -25,11 +16,6 @@ pub node_bits_fit : (bits : Bits) (level : Level) → AreBits bits → node_bits
 node_bits_fit bits Leaf h = h.2.1
 node_bits_fit bits Lower h = h.1.1
 node_bits_fit bits Upper h = h.0.1
-
-pub entry_bits_fit : (bits : Bits) (level : Level) → AreBits bits → entry_bits bits level ≤ 10
-entry_bits_fit bits Leaf h = omega arith
-entry_bits_fit bits Lower h = omega arith
-entry_bits_fit bits Upper h = omega arith
 
 -- ---- entries
 

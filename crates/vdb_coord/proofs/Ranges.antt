@@ -1,17 +1,5 @@
 -- Which entries of a node meet a box, by their positions.
-use Rattle.std.proofs.Common.{◌≡◌, ℕ, ℤ, pos, ◌+◌, ◌-◌, ◌*◌, ◌<◌, ◌≤◌, ◌%◌, ◌/◌, ◌^◌, ◌+ℤ◌, ◌*ℤ◌, Bool, true, false, ◌&&◌, int_le, to_z, w32, arith, ap, sym, subst, ◌∙◌, refl}
-use Rattle.std.specs.Int.{int_max, int_min}
-use Rattle.std.proofs.Math.Pow.{pow_mono}
-use Rattle.std.proofs.lemmas.Int.{ints, to_z_pos}
-use Rattle.std.proofs.Math.Nat.{div-div-eq-div-mul}
-use Rattle.vdb_coord.specs.Blocks.{block_around, entries, entry_bits, node_bits, sub_block}
-use Rattle.vdb_coord.specs.Boxes.{box_of, meets}
-use Rattle.vdb_coord.specs.Components.{digit, first_of, last_of, number_at}
-use Rattle.vdb_coord.specs.Entries.{AreBits, position, position_of}
-use Rattle.vdb_coord.specs.Space.{Box, coord, is_between, is_box, is_inside}
-use Rattle.vdb_coord.specs.declared.Bits.{Bits}
-use Rattle.vdb_coord.specs.declared.Coord.{Coord}
-use Rattle.vdb_coord.specs.declared.Level.{Level}
+use Rattle.vdb_coord.proofs.Common.{◌≡◌, ℕ, ℤ, pos, ◌+◌, ◌-◌, ◌*◌, ◌<◌, ◌≤◌, ◌%◌, ◌/◌, ◌^◌, ◌+ℤ◌, ◌*ℤ◌, Bool, true, false, ◌&&◌, int_le, to_z, w32, arith, ap, sym, subst, ◌∙◌, refl, int_max, int_min, pow_mono, ints, to_z_pos, div-div-eq-div-mul, block_around, entries, entry_bits, node_bits, sub_block, box_of, meets, digit, first_of, last_of, number_at, AreBits, position, position_of, Box, coord, is_between, is_box, is_inside, Bits, Coord, Level}
 use Rattle.vdb_coord.proofs.Boxes.{above_both, below_both, both, le_through, not_true, three, together}
 use Rattle.vdb_coord.proofs.Digits.{entry_end, first_of_entry, number_inside, number_split}
 use Rattle.vdb_coord.proofs.Meeting.{begins_by, ends_by, le_up, number_le}

@@ -1,13 +1,6 @@
 -- A walk over the blocks that meet a box.
-use Rattle.std.proofs.Common.{◌≡◌, ◌⊎◌, inl, inr, ℕ, ℤ, pos, ◌+ℤ◌, ◌≤ℤ◌, ◌<ℤ◌, ◌<◌, Bool, true, false, ◌&&◌, int_le, arith, ap, sym, ◌∙◌, refl, Some, None, SFits, w32, ◌^◌, ◌-ℤ◌, unsigned_abs}
-use Rattle.std.proofs.lemmas.Int.{ints}
-use Rattle.vdb_coord.specs.Blocks.{block_bits, block_number}
-use Rattle.vdb_coord.specs.Components.{first_of, last_of, number_at}
-use Rattle.vdb_coord.specs.Space.{Box, coord, is_box, is_inside}
-use Rattle.vdb_coord.specs.Walk.{IsBefore, IsBlockBefore, IsNextBlock, coordinates_after}
-use Rattle.vdb_coord.specs.declared.Bits.{Bits}
-use Rattle.vdb_coord.specs.declared.Coord.{Coord}
-use Rattle.vdb_coord.specs.declared.Level.{Level}
+use Rattle.vdb_coord.proofs.Common.{◌≡◌, ◌⊎◌, inl, inr, ℕ, ℤ, pos, ◌+ℤ◌, ◌≤ℤ◌, ◌<ℤ◌, ◌<◌, Bool, true, false, ◌&&◌, int_le, arith, ap, sym, ◌∙◌, refl, Some, None, SFits, w32, ◌^◌, ◌-ℤ◌, unsigned_abs, ints, block_bits, block_number, first_of, last_of, number_at, Box, coord, is_box, is_inside, IsBefore, IsBlockBefore, IsNextBlock, Bits, Coord, Level}
+use Rattle.vdb_coord.specs.Walk.{coordinates_after}
 use Rattle.vdb_coord.proofs.Boxes.{both, three, together}
 use Rattle.vdb_coord.proofs.Digits.{inside_own, number_mono}
 use Rattle.vdb_coord.proofs.Meeting.{begins_by, ends_by, le_from_test, number_of_last, test_from_le}

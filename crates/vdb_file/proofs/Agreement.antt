@@ -1,16 +1,6 @@
 -- When the cells of two fields are the same in a box.
-use Rattle.std.proofs.Common.{◌≡◌, ℕ, Bool, true, false, not, List, [], ◌∷◌, ◌++◌, length, refl, sym, ap, subst, ◌∙◌, inl, inr}
-use Rattle.std.specs.Prelude.{if◌then◌else◌}
-use Rattle.std.specs.List.{AllByRecursion, Contains, filter, flat_map}
+use Rattle.vdb_file.proofs.Common.{◌≡◌, ℕ, Bool, true, false, not, List, [], ◌∷◌, ◌++◌, length, refl, sym, ap, subst, ◌∙◌, inl, inr, if◌then◌else◌, AllByRecursion, Contains, filter, flat_map, cases_Bool, Box, is_inside, Coord, Cell, is_background, is_uniform, Field, off, uniform_cells, cell_bytes}
 use Rattle.std.proofs.Math.Bool.{not-not}
-use Rattle.std.proofs.lemmas.Bool.{cases_Bool}
-use Rattle.vdb_coord.specs.Space.{Box, is_inside}
-use Rattle.vdb_coord.specs.declared.Coord.{Coord}
-use Rattle.vdb_value.specs.declared.Cell.{Cell}
-use Rattle.vdb_tree.specs.ConstantBlocks.{is_background, is_uniform}
-use Rattle.vdb_tree.specs.Field.{Field, off}
-use Rattle.vdb_tree.proofs.Uniform.{uniform_cells}
-use Rattle.vdb_file.specs.Bodies.{cell_bytes}
 use Rattle.vdb_file.proofs.Unambiguous.{IsCode, Says, says_behind, says_byte, says_each, says_map, says_then}
 use Rattle.vdb_file.proofs.Kept.{all_kept, at_kept, same_tests}
 

@@ -1,21 +1,7 @@
 -- The encoding of a scene depends only on the cells in the range of coordinates.
-use Rattle.std.proofs.Common.{◌≡◌, ℕ, suc, true, List, [], ◌∷◌, ◌++◌, length, refl, sym, ap, subst}
-use Rattle.std.specs.Prelude.{codes}
-use Rattle.std.specs.List.{Contains, flat_map}
-use Rattle.std.specs.Int.{w16, w32, to_be_bytes}
-use Rattle.vdb_coord.specs.Blocks.{block, block_numbers, vdb}
-use Rattle.vdb_coord.specs.Space.{coordinates, everywhere, is_inside}
-use Rattle.vdb_coord.specs.declared.Coord.{Coord}
-use Rattle.vdb_coord.specs.declared.Level.TheVariants.{Upper}
-use Rattle.vdb_coord.proofs.InRange.{numbered_in_range}
-use Rattle.vdb_coord.proofs.Nesting.{number_in_block}
-use Rattle.vdb_tree.specs.Field.{Field}
-use Rattle.vdb_scene.specs.Scalars.{kind_of, scalar_bytes, scalar_eq}
-use Rattle.vdb_scene.specs.Scene.{Grid, Scene}
-use Rattle.vdb_scene.specs.declared.scalar.Scalar.{Scalar}
+use Rattle.vdb_file.proofs.Common.{◌≡◌, ℕ, suc, true, List, [], ◌∷◌, ◌++◌, length, refl, sym, ap, subst, codes, Contains, flat_map, w16, w32, to_be_bytes, block, block_numbers, vdb, coordinates, everywhere, is_inside, Coord, Upper, numbered_in_range, number_in_block, Field, kind_of, scalar_bytes, scalar_eq, Grid, Scene, Scalar, counted, grid_bytes, head_bytes, kind_bytes, pairs_bytes, spelling}
 use Rattle.vdb_file.specs.Alike.{AreAlike, IsLike}
 use Rattle.vdb_file.specs.Bodies.{roots_bytes}
-use Rattle.vdb_file.specs.Spelling.{counted, grid_bytes, head_bytes, kind_bytes, pairs_bytes, spelling}
 use Rattle.vdb_file.proofs.Agreement.{Agree}
 use Rattle.vdb_file.proofs.RowInstances.{is_root_row, member_inside}
 use Rattle.vdb_file.proofs.Rows.{held_same, texts_same}

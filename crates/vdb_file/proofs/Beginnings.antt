@@ -1,17 +1,7 @@
 -- Reads `VDBS` and the version.
-use Rattle.std.proofs.Common.{◌≡◌, ℕ, ◌<◌, ◌≤◌, ◌^◌, List, [], ◌++◌, length, length-append, take, drop, length-take, take-append-drop, refl, sym, ap, subst, ◌∙◌, arith}
-use Rattle.std.proofs.lemmas.Grind.{common_steps}
-use Rattle.std.specs.Prelude.{Bool, true, false, nat_le, Option, Some, None, IfSome, codes, ⊤}
-use Rattle.std.specs.Int.{w16, to_be_bytes}
-use Rattle.std.specs.Io.KnownBytes.{Consumes}
-use Rattle.vdb_file.specs.Faults.{BeginsAsFile, Claims, HasOtherMagic, HasOtherVersion, StartsWithOther}
-use Rattle.vdb_file.specs.internal.FieldFaults.{IsFieldFault, IsInner, IsMagicFault, IsVersionFault}
-use Rattle.vdb_file.specs.internal.Parts.{version_number}
-use Rattle.vdb_file.specs.internal.Reading.{Fails, NoFront, Position, Took}
-use Rattle.vdb_file.specs.declared.fault.LoadFault.{LoadFault}
+use Rattle.vdb_file.proofs.Common.{◌≡◌, ℕ, ◌<◌, ◌≤◌, ◌^◌, List, [], ◌++◌, length, length-append, take, drop, length-take, take-append-drop, refl, sym, ap, subst, ◌∙◌, arith, common_steps, Bool, true, false, nat_le, Option, Some, None, IfSome, codes, ⊤, w16, to_be_bytes, Consumes, BeginsAsFile, Claims, HasOtherMagic, HasOtherVersion, IsFieldFault, IsInner, IsMagicFault, IsVersionFault, version_number, Fails, NoFront, Position, Took, LoadFault, Version, One, Two}
+use Rattle.vdb_file.specs.Faults.{StartsWithOther}
 use Rattle.vdb_file.specs.declared.fault.LoadFault.TheVariants as faults
-use Rattle.vdb_file.specs.declared.loading.versions.Version.{Version}
-use Rattle.vdb_file.specs.declared.loading.versions.Version.TheVariants.{One, Two}
 use Rattle.vdb_file.proofs.Unambiguous.{says_fixed}
 use Rattle.vdb_file.proofs.Numbers.{says_u16}
 use Rattle.vdb_file.proofs.Fronts.{fails_after, fails_none, fails_turn, some_after, some_turn}

@@ -1,25 +1,5 @@
 -- Reads the entries of a block one after another.
-use Rattle.std.proofs.Common.{◌≡◌, ℕ, ◌+◌, ◌<◌, Bool, true, List, refl, sym, subst}
-use Rattle.std.specs.Prelude.{Option, Some, None}
-use Rattle.std.specs.Int.{w16, to_be_bytes}
-use Rattle.vdb_coord.specs.Blocks.{block_around, entries, entry_numbers, sub_block}
-use Rattle.vdb_coord.specs.Entries.{AreBits}
-use Rattle.vdb_coord.specs.Space.{Box, is_inside}
-use Rattle.vdb_coord.specs.declared.Bits.{Bits}
-use Rattle.vdb_coord.specs.declared.Coord.{Coord}
-use Rattle.vdb_coord.specs.declared.Level.{Level}
-use Rattle.vdb_coord.specs.declared.Level.TheVariants.{Upper}
-use Rattle.vdb_coord.proofs.Nesting.{corner_inside}
-use Rattle.vdb_tree.specs.ConstantBlocks.{is_background}
-use Rattle.vdb_tree.specs.Field.{Field, off}
-use Rattle.vdb_tree.proofs.Uniform.{uniform_cells, uniform_from}
-use Rattle.vdb_file.specs.Bodies.{listed}
-use Rattle.vdb_file.specs.declared.fault.LoadFault.{LoadFault}
-use Rattle.vdb_file.specs.internal.LeafVoxels.{HasValues}
-use Rattle.vdb_file.specs.internal.Loading.{IsIndex}
-use Rattle.vdb_file.specs.internal.LoadedFields.{AreLoadable, HasCapacityAt, IsNext, IsLoadable, KeptOutside, ShowsIn, ShowsInEach, entry_box, next_bytes}
-use Rattle.vdb_file.specs.internal.Reading.{Fails, Position, Took}
-use Rattle.vdb_file.specs.internal.Written.{numbered}
+use Rattle.vdb_file.proofs.Common.{◌≡◌, ℕ, ◌+◌, ◌<◌, Bool, true, List, refl, sym, subst, Option, Some, None, w16, to_be_bytes, block_around, entries, entry_numbers, sub_block, AreBits, Box, is_inside, Bits, Coord, Level, Upper, corner_inside, is_background, Field, off, uniform_cells, uniform_from, listed, LoadFault, HasValues, IsIndex, AreLoadable, HasCapacityAt, IsNext, IsLoadable, KeptOutside, ShowsIn, ShowsInEach, entry_box, next_bytes, Fails, Position, Took, numbered}
 use Rattle.vdb_file.proofs.Agreement.{AreValues}
 use Rattle.vdb_file.proofs.LoadedBlocks.{entry_in_block, in_upper, kept_wider, capacity_kept, same_upper}
 use Rattle.vdb_file.proofs.RowFrames.{below_member, member_below}

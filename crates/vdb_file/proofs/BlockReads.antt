@@ -1,30 +1,8 @@
 -- Reads a block: its head, and then its entries if its cells differ.
-use Rattle.std.proofs.Common.{◌≡◌, ℕ, ◌<◌, ◌≤◌, ◌^◌, Bool, true, false, not, List, [], ◌∷◌, ◌++◌, length, refl, sym, ap, subst, ◌∙◌, arith, inl, inr, append-nil}
-use Rattle.std.specs.Prelude.{if◌then◌else◌}
-use Rattle.std.specs.List.{AllByRecursion}
-use Rattle.std.specs.Int.{w16, to_be_bytes}
-use Rattle.std.proofs.lemmas.Bool.{cases_Bool}
-use Rattle.std.proofs.lemmas.List.FromFn.{length-range_with_len}
-use Rattle.vdb_coord.specs.Blocks.{block_around, entries, entry_numbers, sub_block}
-use Rattle.vdb_coord.specs.Entries.{AreBits}
-use Rattle.vdb_coord.specs.Space.{Box}
-use Rattle.vdb_coord.specs.declared.Bits.{Bits}
-use Rattle.vdb_coord.specs.declared.Coord.{Coord}
-use Rattle.vdb_coord.specs.declared.Level.{Level}
-use Rattle.vdb_value.specs.declared.Cell.{Cell}
-use Rattle.vdb_tree.specs.ConstantBlocks.{cell_eq, is_background, is_constant, is_uniform}
-use Rattle.vdb_tree.specs.Field.{Field, off}
-use Rattle.vdb_tree.proofs.Constants.{entries_few}
-use Rattle.vdb_tree.proofs.Uniform.{cell_exact, uniform_cells, uniform_from}
-use Rattle.vdb_file.specs.Bodies.{block_bytes, cell_bytes, listed}
-use Rattle.vdb_file.specs.declared.fault.LoadFault.{LoadFault}
-use Rattle.vdb_file.specs.declared.loading.block_head.Head.{Head}
-use Rattle.vdb_file.specs.declared.loading.block_head.Head.TheVariants.{Node, One}
-use Rattle.vdb_file.specs.internal.LeafVoxels.{HasValues}
-use Rattle.vdb_file.specs.internal.Loading.{IsHead, head_bytes}
-use Rattle.vdb_file.specs.internal.LoadedFields.{ShowsIn, ShowsInEach}
-use Rattle.vdb_file.specs.internal.Reading.{Fails, Position, Took}
-use Rattle.vdb_file.specs.internal.Written.{numbered}
+use Rattle.vdb_file.proofs.Common.{◌≡◌, ℕ, ◌<◌, ◌≤◌, ◌^◌, Bool, true, false, not, List, [], ◌∷◌, ◌++◌, length, refl, sym, ap, subst, ◌∙◌, arith, inl, inr, append-nil, if◌then◌else◌, AllByRecursion, w16, to_be_bytes, cases_Bool, length-range_with_len, block_around, entries, sub_block, AreBits, Box, Bits, Coord, Level, Cell, cell_eq, is_background, is_constant, is_uniform, Field, off, entries_few, cell_exact, uniform_cells, uniform_from, block_bytes, cell_bytes, listed, LoadFault, Head, Node, HasValues, IsHead, ShowsIn, ShowsInEach, Fails, Position, Took, numbered}
+use Rattle.vdb_coord.specs.Blocks.{entry_numbers}
+use Rattle.vdb_file.specs.declared.loading.block_head.Head.TheVariants.{One}
+use Rattle.vdb_file.specs.internal.Loading.{head_bytes}
 use Rattle.vdb_file.proofs.Unambiguous.{says_fixed, says_map}
 use Rattle.vdb_file.proofs.Agreement.{Agree, AreValues, is_held}
 use Rattle.vdb_file.proofs.Fronts.{fails_after, fails_first, fails_turn, took_both}

@@ -1,28 +1,9 @@
 -- The result of a block that was read, by the answer of its reader's last call.
-use Rattle.std.proofs.Common.{◌≡◌, ℕ, ◌≤◌, Bool, true, false, List, ◌||◌, length, refl, sym, ap, subst, ◌∙◌}
-use Rattle.std.specs.Prelude.{Result, Ok, Err, IfErr, OnOk}
-use Rattle.std.specs.List.{Contains}
-use Rattle.vdb_coord.specs.Blocks.{block_around, entries, entry_numbers, sub_block}
-use Rattle.vdb_coord.specs.Entries.{AreBits}
-use Rattle.vdb_coord.specs.Space.{Box, everywhere, is_inside}
-use Rattle.vdb_coord.specs.declared.Bits.{Bits}
-use Rattle.vdb_coord.specs.declared.Coord.{Coord}
-use Rattle.vdb_coord.specs.declared.Level.{Level}
-use Rattle.vdb_coord.specs.declared.Level.TheVariants.{Leaf}
+use Rattle.vdb_file.proofs.Common.{◌≡◌, ℕ, ◌≤◌, Bool, true, false, List, ◌||◌, length, refl, sym, ap, subst, ◌∙◌, Result, Ok, Err, IfErr, Contains, block_around, entries, entry_numbers, sub_block, AreBits, Box, everywhere, is_inside, Bits, Coord, Level, Leaf, Cell, is_constant, Field, field, fill, with_leaf, block_bytes, leaf_body, listed, voxel_body, LoadFault, Memory, Node, HasValues, IsMixed, leaf_field, voxel_count, voxels_bytes, IsSpelled, ShowsIn, ShowsInEach, Fails, Position, Reads, Took, numbered}
+use Rattle.std.specs.Prelude.{OnOk}
 use Rattle.vdb_node.specs.Leaf.{Leaf as LeafOf}
-use Rattle.vdb_value.specs.declared.Cell.{Cell}
-use Rattle.vdb_tree.specs.ConstantBlocks.{is_constant}
-use Rattle.vdb_tree.specs.Field.{Field, field, fill}
-use Rattle.vdb_tree.specs.Leaves.{with_leaf}
-use Rattle.vdb_file.specs.Bodies.{block_bytes, leaf_body, listed, voxel_body}
-use Rattle.vdb_file.specs.declared.fault.LoadFault.{LoadFault}
-use Rattle.vdb_file.specs.declared.fault.LoadFault.TheVariants.{Memory}
-use Rattle.vdb_file.specs.declared.loading.block_head.Head.TheVariants.{Node, One}
-use Rattle.vdb_file.specs.internal.LeafVoxels.{HasValues, IsMixed, leaf_field, voxel_count, voxels_bytes}
-use Rattle.vdb_file.specs.internal.Loading.{IsSpelled, head_bytes}
-use Rattle.vdb_file.specs.internal.LoadedFields.{ShowsIn, ShowsInEach}
-use Rattle.vdb_file.specs.internal.Reading.{Fails, Position, Reads, Took}
-use Rattle.vdb_file.specs.internal.Written.{numbered}
+use Rattle.vdb_file.specs.declared.loading.block_head.Head.TheVariants.{One}
+use Rattle.vdb_file.specs.internal.Loading.{head_bytes}
 use Rattle.vdb_file.proofs.Agreement.{Agree, AreValues}
 use Rattle.vdb_file.proofs.BlockReads.{no_block_list, node_read, node_shows, one_read}
 use Rattle.vdb_file.proofs.Fronts.{fails_silent, fails_turn}

@@ -1,22 +1,6 @@
 -- The body of a block determines the cells of all its coordinates.
-use Rattle.std.proofs.Common.{◌≡◌, ℕ, Bool, true, false, ◌<◌, ◌^◌, List, ◌∷◌, length, refl, sym, ap, subst, ◌∙◌, arith}
-use Rattle.std.specs.Prelude.{if◌then◌else◌}
-use Rattle.std.specs.List.{AllByRecursion, Contains}
-use Rattle.std.specs.Int.{w16, to_be_bytes}
-use Rattle.std.proofs.lemmas.List.FromFn.{length-range_with_len}
-use Rattle.vdb_coord.specs.Blocks.{block, block_around, block_number, entries, entry_numbers, offset, sub_block}
-use Rattle.vdb_coord.specs.Entries.{AreBits}
-use Rattle.vdb_coord.specs.Space.{Box}
-use Rattle.vdb_coord.specs.declared.Bits.{Bits}
-use Rattle.vdb_coord.specs.declared.Coord.{Coord}
-use Rattle.vdb_coord.specs.declared.Level.{Level}
-use Rattle.vdb_coord.specs.declared.Level.TheVariants.{Leaf, Lower, Upper}
-use Rattle.vdb_coord.proofs.Nesting.{corner_of_entry, entry_holds, in_entry, leaf_block_at_offset, lower_block_at_offset, number_in_block, voxel_from_leaf}
-use Rattle.vdb_coord.proofs.Positions.{offset_below}
-use Rattle.vdb_tree.specs.ConstantBlocks.{is_constant}
-use Rattle.vdb_tree.specs.Field.{Field}
-use Rattle.vdb_tree.proofs.Constants.{entries_few}
-use Rattle.vdb_file.specs.Bodies.{block_bytes, cell_bytes, entries_bytes, leaf_body, listed, lower_body, root_body, voxel_body}
+use Rattle.vdb_file.proofs.Common.{◌≡◌, ℕ, Bool, true, false, ◌<◌, ◌^◌, List, ◌∷◌, length, refl, sym, ap, subst, ◌∙◌, arith, if◌then◌else◌, AllByRecursion, Contains, w16, to_be_bytes, length-range_with_len, block, block_around, block_number, entries, offset, sub_block, AreBits, Box, Bits, Coord, Level, Leaf, Lower, Upper, corner_of_entry, entry_holds, in_entry, leaf_block_at_offset, lower_block_at_offset, number_in_block, voxel_from_leaf, offset_below, is_constant, Field, entries_few, block_bytes, cell_bytes, entries_bytes, leaf_body, listed, lower_body, root_body, voxel_body}
+use Rattle.vdb_coord.specs.Blocks.{entry_numbers}
 use Rattle.vdb_file.proofs.Unambiguous.{Says, says_after, says_cases, says_map, says_never}
 use Rattle.vdb_file.proofs.Numbers.{says_u16}
 use Rattle.vdb_file.proofs.Kept.{few_kept, range_below, range_has}

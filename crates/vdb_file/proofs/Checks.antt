@@ -1,17 +1,7 @@
 -- The encodings of worked examples, found by computing.
-use Rattle.std.proofs.Common.{◌≡◌, pos, negsuc, true, [], ◌∷◌, ◌++◌, refl}
-use Rattle.std.specs.Prelude.{codes, if◌then◌else◌}
-use Rattle.vdb_coord.specs.Blocks.{block, entry_numbers}
-use Rattle.vdb_coord.specs.Space.{coord, coord_eq, coordinates}
-use Rattle.vdb_coord.specs.declared.Bits.{Bits}
-use Rattle.vdb_coord.specs.declared.Level.TheVariants.{Upper}
-use Rattle.vdb_tree.specs.Field.{Field, new, off}
-use Rattle.vdb_scene.specs.Scalars.{scalar_bytes, scalar_eq}
-use Rattle.vdb_scene.specs.Scene.{Grid}
-use Rattle.vdb_scene.specs.declared.scalar.Scalar.{Scalar}
-use Rattle.vdb_scene.specs.declared.scalar.Scalar.TheVariants.{I32}
-use Rattle.vdb_file.specs.Bodies.{cell_bytes, key_bytes, root_body}
-use Rattle.vdb_file.specs.Spelling.{counted, file_bytes, head_bytes, kind_bytes, spelling}
+use Rattle.vdb_file.proofs.Common.{◌≡◌, pos, negsuc, true, [], ◌∷◌, ◌++◌, refl, codes, if◌then◌else◌, block, coord, coord_eq, Bits, Upper, Field, new, off, scalar_bytes, scalar_eq, Grid, Scalar, I32, cell_bytes, key_bytes, root_body, counted, file_bytes, head_bytes, kind_bytes, spelling}
+use Rattle.vdb_coord.specs.Blocks.{entry_numbers}
+use Rattle.vdb_coord.specs.Space.{coordinates}
 
 -- ---- files without grids
 

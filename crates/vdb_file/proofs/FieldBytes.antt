@@ -1,14 +1,11 @@
 -- Fields of fixed lengths.
-use Rattle.std.proofs.Common.{◌≡◌, ℕ, ◌+◌, ◌-◌, ◌*◌, ◌/◌, ◌%◌, ◌<◌, ◌≤◌, List, [], ◌∷◌, ◌++◌, length, take, drop, get_or, refl, sym, ap, subst, ◌∙◌, append_assoc, take-append-drop, length-take, drop-drop, arith}
-use Rattle.std.proofs.lemmas.Grind.{common_steps}
-use Rattle.std.specs.Prelude.{Bool, true, false, ◌^◌, min, nat_le, if◌then◌else◌, Option, Some, None}
+use Rattle.vdb_file.proofs.Common.{◌≡◌, ℕ, ◌+◌, ◌-◌, ◌*◌, ◌<◌, ◌≤◌, List, [], ◌∷◌, ◌++◌, length, take, drop, get_or, refl, sym, ap, subst, ◌∙◌, append_assoc, take-append-drop, length-take, arith, common_steps, Bool, true, false, ◌^◌, min, nat_le, if◌then◌else◌, Option, Some, None, w16, w32, to_be_bytes, Consumes, IsAtEnd, Keeps, prepend_known, Position, Stock, Took, byte_total, position}
+use Rattle.std.proofs.Common.{◌/◌, ◌%◌, drop-drop}
 use Rattle.std.specs.List.{slice_range}
 use Rattle.std.proofs.lemmas.List.{drop-take}
-use Rattle.std.specs.Int.{w16, w32, to_be_bytes}
-use Rattle.std.specs.Io.KnownBytes.{Consumes, IsAtEnd, Keeps, prepend_known}
 use Rattle.std.proofs.KnownBytes.{Consumes-kept}
 use Rattle.vdb_file.specs.Readers.{GaveAtMost}
-use Rattle.vdb_file.specs.internal.Reading.{GaveWithin, Position, Stock, Took, byte_total, given_count, position}
+use Rattle.vdb_file.specs.internal.Reading.{GaveWithin, given_count}
 use Rattle.vdb_file.proofs.Fronts.{took_both}
 
 -- ---- pieces of a field

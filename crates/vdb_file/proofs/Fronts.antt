@@ -1,11 +1,6 @@
 -- Reads one field after another: what was read, and what a fault at a later position shows about the bytes at an earlier one.
-use Rattle.std.proofs.Common.{◌≡◌, ℕ, ◌<◌, List, [], ◌++◌, length, sym, ap, ◌∙◌, append_assoc, append-nil, length-append, arith}
-use Rattle.std.specs.Prelude.{Option, Some, None, IfSome}
-use Rattle.std.specs.Io.KnownBytes.{Consumes, IsAtEnd}
+use Rattle.vdb_file.proofs.Common.{◌≡◌, ℕ, ◌<◌, List, [], ◌++◌, length, sym, ap, ◌∙◌, append_assoc, append-nil, length-append, arith, Option, Some, None, IfSome, Consumes, IsAtEnd, Claims, LoadFault, Fails, NoFront, Position, Took}
 use Rattle.std.proofs.KnownBytes.{Consumes-nil, Consumes-trans}
-use Rattle.vdb_file.specs.Faults.{Claims}
-use Rattle.vdb_file.specs.declared.fault.LoadFault.{LoadFault}
-use Rattle.vdb_file.specs.internal.Reading.{Fails, NoFront, Position, Took}
 use Rattle.vdb_file.proofs.Unambiguous.{Says}
 
 -- ---- the bytes that were read

@@ -1,21 +1,7 @@
 -- Reads grids.
-use Rattle.std.proofs.Common.{◌≡◌, ℕ, ◌<◌, ◌≤◌, ◌^◌, Bool, List, [], ◌∷◌, ◌++◌, refl, sym, subst, ◌∙◌, arith}
-use Rattle.std.specs.Prelude.{Option, ⊤}
-use Rattle.vdb_coord.specs.Blocks.{vdb}
-use Rattle.vdb_value.specs.declared.Kind.{Kind}
+use Rattle.vdb_file.proofs.Common.{◌≡◌, ℕ, ◌<◌, ◌≤◌, ◌^◌, Bool, List, [], ◌∷◌, ◌++◌, refl, sym, subst, ◌∙◌, arith, Option, ⊤, vdb, Kind, Field, kind_of, scalar_bytes, scalar_eq, Grid, roots_bytes, IsGrid, counted, kind_code, IsBody, IsItem, IsLoadedGrid, IsNamed, LoadedGrid, body_bytes, head_code, head_of, loaded_bytes, name_of, named_bytes, IsWithin, Fails, Position, Took, LoadFault, Version, One, Two}
 use Rattle.vdb_value.specs.declared.Kind.TheVariants as kinds
-use Rattle.vdb_tree.specs.Field.{Field}
-use Rattle.vdb_scene.specs.Scalars.{kind_of, scalar_bytes, scalar_eq}
-use Rattle.vdb_scene.specs.Scene.{Grid}
-use Rattle.vdb_file.specs.Bodies.{roots_bytes}
-use Rattle.vdb_scene.specs.ValidScenes.{IsGrid}
-use Rattle.vdb_file.specs.Spelling.{counted, kind_code}
-use Rattle.vdb_file.specs.internal.Parts.{Head, IsBody, IsHead, IsItem, IsLoadedGrid, IsNamed, IsNext, LoadedGrid, body_bytes, head_code, head_of, loaded_bytes, name_of, named_bytes}
-use Rattle.vdb_file.specs.internal.LoadedFields.{IsWithin}
-use Rattle.vdb_file.specs.internal.Reading.{Fails, Position, Took}
-use Rattle.vdb_file.specs.declared.fault.LoadFault.{LoadFault}
-use Rattle.vdb_file.specs.declared.loading.versions.Version.{Version}
-use Rattle.vdb_file.specs.declared.loading.versions.Version.TheVariants.{One, Two}
+use Rattle.vdb_file.specs.internal.Parts.{Head, IsHead, IsNext}
 use Rattle.vdb_file.proofs.Unambiguous.{IsCode, Says, says_byte, says_fixed, says_map, says_then}
 use Rattle.vdb_file.proofs.Numbers.{says_counted, says_u32}
 use Rattle.vdb_file.proofs.Pairs.{says_pairs}

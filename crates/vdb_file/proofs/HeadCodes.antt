@@ -1,18 +1,7 @@
 -- The bytes of values, cells, heads and numbers determine them.
-use Rattle.std.proofs.Common.{◌≡◌, ℕ, ◌<◌, ◌≤◌, ◌^◌, Bool, true, false, List, [], ◌∷◌, ◌++◌, refl, sym, ap, subst, ◌∙◌, arith, append-nil}
-use Rattle.std.specs.Prelude.{if◌then◌else◌, IsTrue, ⊤}
-use Rattle.std.specs.Int.{w16, to_be_bytes}
-use Rattle.vdb_value.specs.Values.{are_bytes_of}
-use Rattle.vdb_value.specs.declared.Cell.{Cell}
-use Rattle.vdb_value.specs.declared.Kind.{Kind}
-use Rattle.vdb_tree.specs.Field.{off}
-use Rattle.vdb_tree.proofs.Uniform.{cell_same}
-use Rattle.vdb_file.specs.Bodies.{cell_bytes}
-use Rattle.vdb_file.specs.declared.fault.LoadFault.{LoadFault}
-use Rattle.vdb_file.specs.declared.loading.block_head.Head.{Head}
-use Rattle.vdb_file.specs.declared.loading.block_head.Head.TheVariants.{Node, One}
-use Rattle.vdb_file.specs.internal.Loading.{IsHead, IsSpelled, head_bytes}
-use Rattle.vdb_file.specs.internal.Reading.{Fails, Position, Took}
+use Rattle.vdb_file.proofs.Common.{◌≡◌, ℕ, ◌<◌, ◌≤◌, ◌^◌, Bool, true, false, List, [], ◌∷◌, ◌++◌, refl, sym, ap, subst, ◌∙◌, arith, append-nil, if◌then◌else◌, IsTrue, ⊤, w16, to_be_bytes, are_bytes_of, Cell, Kind, off, cell_same, cell_bytes, LoadFault, Head, Node, IsHead, IsSpelled, Fails, Position, Took}
+use Rattle.vdb_file.specs.declared.loading.block_head.Head.TheVariants.{One}
+use Rattle.vdb_file.specs.internal.Loading.{head_bytes}
 use Rattle.vdb_file.proofs.Unambiguous.{IsCode, Says, says_after, says_map, says_never}
 use Rattle.vdb_file.proofs.Agreement.{AreValues, says_cell}
 use Rattle.vdb_file.proofs.Numbers.{says_u16}

@@ -1,13 +1,6 @@
 -- Reads root limits and metadata pairs.
-use Rattle.std.proofs.Common.{◌≡◌, ℕ, ◌<◌, ◌^◌, [], refl, sym, subst, arith}
-use Rattle.std.specs.Int.{w32, to_be_bytes}
-use Rattle.vdb_scene.specs.Metas.{Pairs}
-use Rattle.vdb_scene.specs.ValidScenes.{ArePairs}
-use Rattle.vdb_file.specs.Spelling.{pairs_bytes}
-use Rattle.vdb_file.specs.internal.Parts.{IsHead, IsLimit, head_code}
-use Rattle.vdb_file.specs.internal.Reading.{Fails, Position, Took}
-use Rattle.vdb_file.specs.declared.fault.LoadFault.{LoadFault}
-use Rattle.vdb_file.specs.declared.loading.versions.Version.TheVariants.{Two}
+use Rattle.vdb_file.proofs.Common.{◌≡◌, ℕ, ◌<◌, ◌^◌, [], refl, sym, subst, arith, w32, to_be_bytes, Pairs, ArePairs, pairs_bytes, head_code, Fails, Position, Took, LoadFault, Two}
+use Rattle.vdb_file.specs.internal.Parts.{IsHead, IsLimit}
 use Rattle.vdb_file.proofs.Numbers.{says_u32}
 use Rattle.vdb_file.proofs.Fronts.{fails_after, fails_first, fails_none, fails_turn, took_both}
 

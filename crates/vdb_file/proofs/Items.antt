@@ -1,18 +1,8 @@
 -- Reads items one after another, each with a name that comes after the one before.
-use Rattle.std.proofs.Common.{◌≡◌, ℕ, zero, suc, ◌<◌, List, [], ◌∷◌, ◌++◌, length, take, drop, get_or, length-take, take-append-drop, refl, sym, ap, subst, ◌∙◌, append-nil, arith}
-use Rattle.std.specs.Prelude.{Option, Some, None, map, ⊤}
-use Rattle.std.specs.List.{AllByRecursion, flat_map}
+use Rattle.vdb_file.proofs.Common.{◌≡◌, ℕ, zero, suc, ◌<◌, List, [], ◌∷◌, ◌++◌, length, take, drop, get_or, length-take, take-append-drop, refl, sym, ap, subst, ◌∙◌, append-nil, arith, Option, Some, None, map, ⊤, AllByRecursion, flat_map, nat_cmp, nat_list_cmp_total, slice_cmp, Ordering, Less, flat_map-append, AreItems, IsItem, name_of, Fails, Position, Took, LoadFault}
 use Rattle.std.specs.List.Sorted.{IsStrictlySortedBy}
 use Rattle.std.specs.BTreeMap.{insert_entry}
-use Rattle.std.specs.Ordering.{nat_cmp}
-use Rattle.std.specs.Cmp.Lexicographic.{nat_list_cmp_total, slice_cmp}
-use Rattle.std.specs.declared.cmp.Ordering.{Ordering}
-use Rattle.std.specs.declared.cmp.Ordering.TheVariants.{Less}
-use Rattle.std.proofs.lemmas.Grind.{flat_map-append}
 use Rattle.vdb_scene.proofs.Copying.{insert_last}
-use Rattle.vdb_file.specs.internal.Parts.{AreItems, IsItem, name_of}
-use Rattle.vdb_file.specs.internal.Reading.{Fails, Position, Took}
-use Rattle.vdb_file.specs.declared.fault.LoadFault.{LoadFault}
 use Rattle.vdb_file.proofs.Unambiguous.{IsCode, says_all}
 use Rattle.vdb_file.proofs.Fronts.{fails_after, fails_first, took_both}
 

@@ -1,10 +1,8 @@
 -- What the members that pass a test show about all members of a list.
-use Rattle.std.proofs.Common.{◌≡◌, ℕ, ◌<◌, ◌≤◌, Bool, true, false, cond, List, [], ◌∷◌, length, sym, subst, ◌∙◌, arith}
-use Rattle.std.specs.List.{AllByRecursion, Contains, filter, range_with_len}
-use Rattle.std.proofs.lemmas.List.Elements.{All-contains, All-filter, All-from_recursion, filter_passes, recursion_from_All}
-use Rattle.std.proofs.lemmas.List.FromFn.{get_or-range_with_len, length-range_with_len}
+use Rattle.vdb_file.proofs.Common.{◌≡◌, ℕ, ◌<◌, ◌≤◌, Bool, true, false, cond, List, [], ◌∷◌, length, sym, subst, ◌∙◌, arith, AllByRecursion, Contains, filter, range_with_len, All-contains, All-from_recursion, filter_passes, recursion_from_All, length-range_with_len, same_truth}
+use Rattle.std.proofs.lemmas.List.Elements.{All-filter}
+use Rattle.std.proofs.lemmas.List.FromFn.{get_or-range_with_len}
 use Rattle.std.proofs.lemmas.List.Sums.{count_by-le-length, length-filter}
-use Rattle.vdb_coord.proofs.Boxes.{same_truth}
 
 module _ {K : Type 0} where
   -- one member, which a filter keeps or not

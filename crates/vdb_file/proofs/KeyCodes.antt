@@ -1,15 +1,5 @@
 -- The bytes of the keys of root blocks determine the keys.
-use Rattle.std.proofs.Common.{◌≡◌, ℕ, ℤ, List, [], ◌++◌, refl, sym, subst, append-nil}
-use Rattle.std.specs.Prelude.{FitsSigned, Option}
-use Rattle.std.specs.Int.{w32}
-use Rattle.vdb_coord.specs.Entries.{AreBits}
-use Rattle.vdb_coord.specs.declared.Bits.{Bits}
-use Rattle.vdb_coord.specs.declared.Coord.{Coord}
-use Rattle.vdb_value.specs.Values.{number_bytes}
-use Rattle.vdb_file.specs.Bodies.{key_bytes}
-use Rattle.vdb_file.specs.declared.fault.LoadFault.{LoadFault}
-use Rattle.vdb_file.specs.internal.Loading.{IsKey}
-use Rattle.vdb_file.specs.internal.Reading.{Fails, Position, Took}
+use Rattle.vdb_file.proofs.Common.{◌≡◌, ℕ, ℤ, List, [], ◌++◌, refl, sym, subst, append-nil, FitsSigned, Option, w32, AreBits, Bits, Coord, number_bytes, key_bytes, LoadFault, IsKey, Fails, Position, Took}
 use Rattle.vdb_file.proofs.Numbers.{says_i32, says_key}
 use Rattle.vdb_file.proofs.Fronts.{fails_after, fails_first, fails_none, fails_turn, took_both}
 use Rattle.vdb_file.proofs.Roots.{key_fits}

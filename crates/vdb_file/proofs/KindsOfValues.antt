@@ -1,15 +1,7 @@
 -- The three types of values among the scalars of any type.
-use Rattle.std.proofs.Common.{◌≡◌, ℤ, pos, negsuc, Bool, true, false, refl, arith}
-use Rattle.std.specs.Prelude.{FitsSigned, ⊤}
-use Rattle.std.specs.Int.{w32, w64}
-use Rattle.std.specs.Ordering.{int_eq}
-use Rattle.std.proofs.Math.Bool.{beq}
-use Rattle.std.proofs.lemmas.Int.{ints}
-use Rattle.vdb_value.specs.Values.{has_number, number_bytes, truth_bytes}
+use Rattle.vdb_file.proofs.Common.{◌≡◌, ℤ, pos, negsuc, Bool, true, false, refl, arith, FitsSigned, ⊤, w32, w64, int_eq, beq, ints, has_number, number_bytes, truth_bytes, Scalar, I32, I64, is_value_of}
 use Rattle.vdb_value.specs.declared.Kind.TheVariants as kinds
-use Rattle.vdb_scene.specs.declared.scalar.Scalar.{Scalar}
-use Rattle.vdb_scene.specs.declared.scalar.Scalar.TheVariants.{Bool as truth, I32, I64}
-use Rattle.vdb_scene.specs.ValidScenes.{is_value_of}
+use Rattle.vdb_scene.specs.declared.scalar.Scalar.TheVariants.{Bool as truth}
 use Rattle.vdb_file.proofs.TypedGrids.{IsKind}
 use Rattle.vdb_file.proofs.Values.{i32_fits, i64_fits}
 

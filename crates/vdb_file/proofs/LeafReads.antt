@@ -1,35 +1,10 @@
 -- The voxels of a leaf block, read one after another into a leaf.
-use Rattle.std.proofs.Common.{◌≡◌, ℕ, zero, suc, ◌+◌, ◌*◌, ◌<◌, ◌^◌, Bool, true, false, not, List, [], ◌∷◌, ◌++◌, length, length-append, append-nil, refl, sym, ap, subst, ◌∙◌, ◌⊎◌, inl, inr, arith}
-use Rattle.std.specs.Prelude.{◌↔◌, Option, Some, None, Result, Ok, Err, IfOk, IfErr, IsTrue, if◌then◌else◌}
-use Rattle.std.specs.Int.{w16, to_be_bytes}
-use Rattle.std.specs.List.{flat_map}
-use Rattle.std.specs.Ordering.{nat_cmp}
-use Rattle.std.proofs.lemmas.Bool.{cases_Bool}
+use Rattle.vdb_file.proofs.Common.{◌≡◌, ℕ, zero, suc, ◌+◌, ◌*◌, ◌<◌, ◌^◌, Bool, true, false, not, List, [], ◌∷◌, ◌++◌, length, length-append, append-nil, refl, sym, ap, subst, ◌∙◌, ◌⊎◌, inl, inr, arith, ◌↔◌, Option, Some, None, Result, Ok, Err, IfErr, IsTrue, if◌then◌else◌, w16, to_be_bytes, flat_map, nat_cmp, cases_Bool, block_around, block_number, entries, offset, sub_block, AreBits, Box, coord_eq, is_inside, Bits, Coord, Leaf, not_true, coord_equiv, coord_exact, corner_inside, corner_of_entry, entry_holds, in_entry, inside_numbered, number_in_block, voxel_from_leaf, offset_below, IsConstantLeaf, SetsVoxel, cell_in, entry_count, are_bytes_of, byte_count, Cell, Kind, cell_eq, is_background, is_constant, Field, off, cell_exact, cell_same, uniform_cells, uniform_from, cell_bytes, listed, voxel_body, LoadFault, Follows, HasValues, IsMixed, leaf_field, voxel_count, voxels_bytes, IsIndex, IsSpelled, Fails, Position, Reads, Took}
+use Rattle.std.specs.Prelude.{IfOk}
 use Rattle.std.proofs.lemmas.List.{get_or_default}
-use Rattle.vdb_coord.specs.Blocks.{block_around, block_number, entries, offset, sub_block}
-use Rattle.vdb_coord.specs.Entries.{AreBits}
-use Rattle.vdb_coord.specs.Space.{Box, coord_eq, is_inside}
-use Rattle.vdb_coord.specs.declared.Bits.{Bits}
-use Rattle.vdb_coord.specs.declared.Coord.{Coord}
-use Rattle.vdb_coord.specs.declared.Level.TheVariants.{Leaf}
-use Rattle.vdb_coord.proofs.Boxes.{not_true}
-use Rattle.vdb_coord.proofs.Members.{coord_equiv, coord_exact}
-use Rattle.vdb_coord.proofs.Nesting.{corner_inside, corner_of_entry, entry_holds, in_entry, inside_numbered, number_in_block, voxel_from_leaf}
-use Rattle.vdb_coord.proofs.Positions.{entries_is, offset_below}
-use Rattle.vdb_node.specs.Leaf.{IsConstantLeaf, Leaf as LeafOf, SetsVoxel, cell_in}
-use Rattle.vdb_node.specs.Nodes.{entry_count}
-use Rattle.vdb_value.specs.Values.{are_bytes_of, byte_count}
-use Rattle.vdb_value.specs.declared.Cell.{Cell}
-use Rattle.vdb_value.specs.declared.Kind.{Kind}
-use Rattle.vdb_tree.specs.ConstantBlocks.{cell_eq, is_background, is_constant}
-use Rattle.vdb_tree.specs.Field.{Field, off}
-use Rattle.vdb_tree.proofs.Uniform.{cell_exact, cell_same, uniform_cells, uniform_from}
-use Rattle.vdb_file.specs.Bodies.{cell_bytes, listed, voxel_body}
-use Rattle.vdb_file.specs.declared.fault.LoadFault.{LoadFault}
-use Rattle.vdb_file.specs.internal.Following.{Follows}
-use Rattle.vdb_file.specs.internal.LeafVoxels.{HasValues, IsMixed, IsVoxel, leaf_field, voxel_bytes, voxel_count, voxels_bytes}
-use Rattle.vdb_file.specs.internal.Loading.{IsIndex, IsSpelled}
-use Rattle.vdb_file.specs.internal.Reading.{Fails, Position, Reads, Took}
+use Rattle.vdb_coord.proofs.Positions.{entries_is}
+use Rattle.vdb_node.specs.Leaf.{Leaf as LeafOf}
+use Rattle.vdb_file.specs.internal.LeafVoxels.{IsVoxel, voxel_bytes}
 use Rattle.vdb_file.proofs.Unambiguous.{IsCode, says_fixed}
 use Rattle.vdb_file.proofs.Numbers.{says_u16}
 use Rattle.vdb_file.proofs.ValueCodes.{bytes_count}

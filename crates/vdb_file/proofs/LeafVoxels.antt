@@ -1,31 +1,13 @@
 -- The voxels of a leaf that aren't the background.
-use Rattle.std.proofs.Common.{◌≡◌, ℕ, ◌+◌, ◌-◌, ◌<◌, ◌≤◌, Bool, true, false, not, List, ◌++◌, arith, refl, sym, ap, subst, ◌∙◌, length, length-take-le, take, take-take}
+use Rattle.vdb_file.proofs.Common.{◌≡◌, ℕ, ◌+◌, ◌-◌, ◌<◌, ◌≤◌, Bool, true, false, not, List, ◌++◌, arith, refl, sym, ap, subst, ◌∙◌, length, length-take-le, take, take-take, put_mid, ◌↔◌, IfSome, Option, Some, None, w16, to_be_bytes, block_around, block_number, entries, offset, AreBits, Box, everywhere, is_inside, Bits, Coord, Level, Leaf, block_in_range, number_of_corner, corner_inside, corner_of_entry, in_entry, number_in_block, voxel_from_leaf, entry_count, Field, off, Layout, field_of, cell_exact, cell_same, uniform_cells, uniform_from, IsConstantLeaf, cell_in, cell_eq, is_background, is_constant, Cell, cell_bytes, listed, voxel_body, Puts, Sent, numbered, passing}
 use Rattle.std.proofs.lemmas.Slice.{take-put_mid}
 use Rattle.std.proofs.Math.Seq.{take-append-add}
-use borrow.Rule.Slice.PartMut.{put_mid}
-use Rattle.std.specs.Prelude.{◌↔◌, IfSome, Option, Some, None, is_some}
-use Rattle.std.specs.Int.{w16, to_be_bytes}
-use Rattle.vdb_coord.specs.Blocks.{block_around, block_number, entries, node_bits, offset}
-use Rattle.vdb_coord.specs.Entries.{AreBits}
-use Rattle.vdb_coord.specs.Space.{Box, everywhere, is_inside}
-use Rattle.vdb_coord.specs.declared.Bits.{Bits}
-use Rattle.vdb_coord.specs.declared.Coord.{Coord}
-use Rattle.vdb_coord.specs.declared.Level.{Level}
-use Rattle.vdb_coord.specs.declared.Level.TheVariants.{Leaf}
-use Rattle.vdb_coord.proofs.InRange.{block_in_range, number_of_corner}
-use Rattle.vdb_coord.proofs.Nesting.{corner_inside, corner_of_entry, in_entry, number_in_block, voxel_from_leaf}
-use Rattle.vdb_node.specs.Nodes.{entry_count}
-use Rattle.vdb_tree.specs.Field.{Field, off}
-use Rattle.vdb_tree.specs.Layout.{Layout, field_of}
+use Rattle.std.specs.Prelude.{is_some}
+use Rattle.vdb_coord.specs.Blocks.{node_bits}
 use Rattle.vdb_tree.specs.Leaves.{IsLeafAround}
 use Rattle.vdb_tree.proofs.Constants.{block_from_node}
-use Rattle.vdb_tree.proofs.Uniform.{cell_exact, cell_same, uniform_cells, uniform_from}
 use Rattle.vdb_walk.proofs.LeafTests.{leaf_test}
-use Rattle.vdb_node.specs.Leaf.{IsConstantLeaf, Leaf as LeafOf, cell_in}
-use Rattle.vdb_tree.specs.ConstantBlocks.{cell_eq, is_background, is_constant}
-use Rattle.vdb_value.specs.declared.Cell.{Cell}
-use Rattle.vdb_file.specs.Bodies.{cell_bytes, listed, voxel_body}
-use Rattle.vdb_file.specs.internal.Written.{Puts, Sent, numbered, passing}
+use Rattle.vdb_node.specs.Leaf.{Leaf as LeafOf}
 use Rattle.vdb_file.proofs.ListedEntries.{around, listed_is}
 use Rattle.vdb_file.proofs.Passing.{counted_in, counted_out, numbered_more, numbered_same, passing_in, passing_out, passing_same}
 

@@ -1,13 +1,5 @@
 -- The levels of blocks and of their entries.
-use Rattle.std.proofs.Common.{ℕ, ◌<◌, ◌^◌, Bool, List}
-use Rattle.vdb_coord.specs.Blocks.{block_around}
-use Rattle.vdb_coord.specs.Entries.{AreBits}
-use Rattle.vdb_coord.specs.declared.Bits.{Bits}
-use Rattle.vdb_coord.specs.declared.Coord.{Coord}
-use Rattle.vdb_coord.specs.declared.Level.{Level}
-use Rattle.vdb_coord.specs.declared.Level.TheVariants.{Leaf, Lower, Upper}
-use Rattle.vdb_tree.specs.Parts.{IsNextAbove}
-use Rattle.vdb_file.specs.internal.Levels.{level_body}
+use Rattle.vdb_file.proofs.Common.{ℕ, ◌<◌, ◌^◌, Bool, List, block_around, AreBits, Bits, Coord, Level, Leaf, Lower, Upper, IsNextAbove, level_body}
 use Rattle.vdb_file.proofs.Agreement.{AreValues}
 use Rattle.vdb_file.proofs.RowInstances.{is_lower_row, is_upper_row, node_row}
 use Rattle.vdb_file.proofs.Rows.{IsRow}

@@ -1,4 +1,5 @@
 -- Lemmas for the proofs of the crate.
+mod Common
 pub mod Outputs
 pub mod Passing
 pub mod ListedEntries

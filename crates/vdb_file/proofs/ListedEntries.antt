@@ -1,21 +1,7 @@
 -- The entries of a block that hold anything but the background.
-use Rattle.std.proofs.Common.{◌≡◌, ◌⊎◌, inl, inr, ℕ, ◌+◌, ◌<◌, ◌≤◌, Bool, true, false, not, List, arith, refl, sym, ap, subst, ◌∙◌}
-use Rattle.vdb_coord.specs.Blocks.{block, block_around, entries, entry_numbers, offset, sub_block}
-use Rattle.vdb_coord.specs.Space.{Box}
-use Rattle.vdb_coord.specs.declared.Bits.{Bits}
-use Rattle.vdb_coord.specs.declared.Coord.{Coord}
-use Rattle.vdb_coord.specs.declared.Level.{Level}
-use Rattle.vdb_coord.specs.declared.Level.TheVariants.{Leaf, Lower, Upper}
-use Rattle.vdb_coord.proofs.Nesting.{corner_of_entry, in_entry, leaf_block_at_offset, lower_block_at_offset}
-use Rattle.vdb_node.specs.Entries.{IsFirstWithoutAt}
-use Rattle.vdb_tree.specs.ConstantBlocks.{is_background, is_uniform}
-use Rattle.vdb_tree.specs.Field.{Field, off}
-use Rattle.vdb_tree.specs.Parts.{IsNextAbove}
+use Rattle.vdb_file.proofs.Common.{◌≡◌, ◌⊎◌, inl, inr, ℕ, ◌+◌, ◌<◌, ◌≤◌, Bool, true, false, not, List, arith, refl, sym, ap, subst, ◌∙◌, block, block_around, entries, offset, sub_block, Box, Bits, Coord, Level, Leaf, Lower, Upper, corner_of_entry, in_entry, leaf_block_at_offset, lower_block_at_offset, IsFirstWithoutAt, is_background, is_uniform, Field, off, IsNextAbove, never, uniform_from, listed, passing}
+use Rattle.vdb_coord.specs.Blocks.{entry_numbers}
 use Rattle.vdb_tree.specs.Unlike.{IsCellFrom, IsNextUnlikeAt}
-use Rattle.vdb_tree.proofs.Blocks.{never}
-use Rattle.vdb_tree.proofs.Uniform.{uniform_from}
-use Rattle.vdb_file.specs.Bodies.{listed}
-use Rattle.vdb_file.specs.internal.Written.{passing}
 
 below_or_from : (k at : ℕ) → (k < at) ⊎ (at ≤ k)
 below_or_from k at = grind arith

@@ -1,29 +1,9 @@
 -- Fields whose cells changed in one box.
-use Rattle.std.proofs.Common.{◌≡◌, ℕ, ◌<◌, Bool, true, false, List, refl, sym, ap, subst, ◌∙◌, arith, inl, inr}
-use Rattle.std.proofs.lemmas.Bool.{cases_Bool}
-use Rattle.std.specs.Prelude.{if◌then◌else◌, pos, Result, Err}
-use Rattle.vdb_coord.specs.Blocks.{block, block_around, block_number, entries, offset, sub_block}
-use Rattle.vdb_coord.specs.Entries.{AreBits}
-use Rattle.vdb_coord.specs.Space.{Box, coord, coord_eq, everywhere, is_inside}
-use Rattle.vdb_coord.specs.declared.Bits.{Bits}
-use Rattle.vdb_coord.specs.declared.Coord.{Coord}
-use Rattle.vdb_coord.specs.declared.Level.{Level}
-use Rattle.vdb_coord.specs.declared.Level.TheVariants.{Leaf, Lower, Upper}
-use Rattle.vdb_coord.proofs.InRange.{block_in_range}
-use Rattle.vdb_coord.proofs.Members.{coord_equiv, coord_exact}
-use Rattle.vdb_coord.proofs.Nesting.{in_entry, inside_numbered, lower_from_leaf, number_in_block, upper_from_lower}
-use Rattle.vdb_node.specs.Leaf.{cell_in, Leaf as LeafOf}
-use Rattle.vdb_value.specs.declared.Cell.{Cell}
-use Rattle.vdb_tree.specs.ConstantBlocks.{cell_eq, is_background, is_constant, roots}
-use Rattle.vdb_tree.specs.Field.{Field, field, fill, off}
-use Rattle.vdb_tree.specs.Layout.{Layout, field_of}
-use Rattle.vdb_tree.specs.Leaves.{with_leaf}
-use Rattle.vdb_tree.specs.Outcome.{IsOutcome}
+use Rattle.vdb_file.proofs.Common.{◌≡◌, ℕ, ◌<◌, Bool, true, false, List, refl, sym, ap, subst, ◌∙◌, arith, inl, inr, cases_Bool, if◌then◌else◌, pos, Result, Err, block, block_around, block_number, entries, offset, sub_block, AreBits, Box, coord, coord_eq, everywhere, is_inside, Bits, Coord, Level, Leaf, Lower, Upper, block_in_range, coord_equiv, coord_exact, in_entry, inside_numbered, number_in_block, cell_in, Cell, cell_eq, is_background, is_constant, roots, Field, field, fill, off, Layout, field_of, with_leaf, IsOutcome, cell_same, uniform_cells, uniform_from, HasValues, leaf_field, HasCapacityAt, KeptOutside}
+use Rattle.vdb_coord.proofs.Nesting.{lower_from_leaf, upper_from_lower}
+use Rattle.vdb_node.specs.Leaf.{Leaf as LeafOf}
 use Rattle.vdb_tree.specs.declared.refusal.TreeRefusal.{TreeRefusal}
 use Rattle.vdb_tree.specs.declared.refusal.TreeRefusal.TheVariants.{RootLimit}
-use Rattle.vdb_tree.proofs.Uniform.{cell_same, uniform_cells, uniform_from}
-use Rattle.vdb_file.specs.internal.LeafVoxels.{HasValues, leaf_field}
-use Rattle.vdb_file.specs.internal.LoadedFields.{HasCapacityAt, KeptOutside}
 use Rattle.vdb_file.proofs.Agreement.{Agree, AreValues}
 use Rattle.vdb_file.proofs.RowFrames.{corner_in_block}
 

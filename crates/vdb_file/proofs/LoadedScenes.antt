@@ -1,14 +1,12 @@
 -- A scene whose grids' accessors were never used, with a further grid.
-use Rattle.std.proofs.Common.{ℕ, List, sym, subst}
+use Rattle.vdb_file.proofs.Common.{ℕ, List, sym, subst, nat_cmp, slice_cmp, HaveUnusedAccessors}
 use Rattle.std.specs.List.{All}
 use Rattle.std.specs.Map.{values_of}
-use Rattle.std.specs.Ordering.{nat_cmp}
-use Rattle.std.specs.Cmp.Lexicographic.{slice_cmp}
 use Rattle.std.proofs.lemmas.Map.Views.{All-values-insert_entry}
 use Rattle.vdb_scene.specs.Doing.{AddsGrid}
 use Rattle.vdb_scene.specs.declared.grid_entry.GridEntry.{GridEntry}
 use Rattle.vdb_scene.specs.declared.scene.Scene.{Scene}
-use Rattle.vdb_scene.specs.Accessors.{HasUnusedAccessors, HaveUnusedAccessors}
+use Rattle.vdb_scene.specs.Accessors.{HasUnusedAccessors}
 
 abbrev IsUnused : GridEntry → Type 0
 IsUnused e = HasUnusedAccessors e.grid

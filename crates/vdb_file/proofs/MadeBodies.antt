@@ -1,19 +1,9 @@
 -- A field with converted values has the same encoding if each value keeps its encoding.
-use Rattle.std.proofs.Common.{◌≡◌, ℕ, Bool, not, if◌then◌else◌, List, ◌∷◌, ◌++◌, ap, ◌∙◌, length, filter}
-use Rattle.std.specs.List.{flat_map}
-use Rattle.std.specs.Int.{w16, w32, to_be_bytes}
+use Rattle.vdb_file.proofs.Common.{◌≡◌, ℕ, Bool, not, if◌then◌else◌, List, ◌∷◌, ◌++◌, ap, ◌∙◌, length, flat_map, w16, w32, to_be_bytes, block, block_numbers, entry_numbers, sub_block, Box, coordinates, Bits, Coord, Level, Leaf, Lower, Upper, is_background, is_constant, root_keys, roots, Field, as_field_of, field, off, Cell, block_bytes, cell_bytes, key_bytes, listed, root_body}
+use Rattle.std.proofs.Common.{filter}
 use Rattle.std.proofs.Math.Path.{fun_ext}
-use Rattle.vdb_coord.specs.Blocks.{block, block_numbers, entry_numbers, sub_block}
-use Rattle.vdb_coord.specs.Space.{Box, coordinates}
-use Rattle.vdb_coord.specs.declared.Bits.{Bits}
-use Rattle.vdb_coord.specs.declared.Coord.{Coord}
-use Rattle.vdb_coord.specs.declared.Level.{Level}
-use Rattle.vdb_coord.specs.declared.Level.TheVariants.{Leaf, Lower, Upper}
-use Rattle.vdb_tree.specs.ConstantBlocks.{is_background, is_constant, root_keys, roots}
-use Rattle.vdb_tree.specs.Field.{Field, as_field_of, field, off}
 use Rattle.vdb_tree.proofs.AsFieldOf.{as_field_of_cell, as_field_of_constant, as_field_of_uniform}
-use Rattle.vdb_value.specs.declared.Cell.{Cell}
-use Rattle.vdb_file.specs.Bodies.{block_bytes, cell_bytes, key_bytes, listed, root_body, roots_bytes}
+use Rattle.vdb_file.specs.Bodies.{roots_bytes}
 
 module _ {V U : Type 0} (make : V → U) (background : V) (cells : Coord → Cell V) (eq : V → V → Bool) (made_eq : U → U → Bool) (same : (v w : V) → made_eq (make v) (make w) ≡ eq v w)
     (bytes : V → List ℕ) (made_bytes : U → List ℕ) (same_bytes : (v : V) → made_bytes (make v) ≡ bytes v) (bits : Bits) where

@@ -1,11 +1,8 @@
 -- The buffer and its reader after a series of calls.
-use Rattle.std.proofs.Common.{◌≡◌, Bool, ◌||◌, ap, sym, ◌∙◌}
+use Rattle.vdb_file.proofs.Common.{◌≡◌, Bool, ◌||◌, ap, sym, ◌∙◌, Result, Ok, Err, IfErr, LoadFault, Memory, Truncated, Stock}
 use Rattle.std.proofs.Math.Bool.{or-false}
-use Rattle.std.specs.Prelude.{Result, Ok, Err, IfErr}
 use Rattle.vdb_file.specs.Faults.{is_read_fault}
-use Rattle.vdb_file.specs.declared.fault.LoadFault.{LoadFault}
-use Rattle.vdb_file.specs.declared.fault.LoadFault.TheVariants.{Memory, Truncated}
-use Rattle.vdb_file.specs.internal.Reading.{Moves, Reader, Stock}
+use Rattle.vdb_file.specs.internal.Reading.{Moves, Reader}
 
 same_fault : {X : Type 0} (a b : LoadFault) → ◌≡◌ {A = Result X LoadFault} (Err a) (Err b) → a ≡ b
 same_fault a b e = cc

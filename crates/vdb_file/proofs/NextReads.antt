@@ -1,20 +1,5 @@
 -- Reads a number or a key, and then the block for it.
-use Rattle.std.proofs.Common.{◌≡◌, ℕ, ◌<◌, ◌^◌, Bool, List, refl, sym, ap, subst, arith}
-use Rattle.std.specs.Prelude.{Option}
-use Rattle.std.specs.Int.{w16, to_be_bytes}
-use Rattle.vdb_coord.specs.Blocks.{entries}
-use Rattle.vdb_coord.specs.Entries.{AreBits}
-use Rattle.vdb_coord.specs.Space.{Box}
-use Rattle.vdb_coord.specs.declared.Bits.{Bits}
-use Rattle.vdb_coord.specs.declared.Coord.{Coord}
-use Rattle.vdb_coord.specs.declared.Level.{Level}
-use Rattle.vdb_tree.specs.Field.{Field}
-use Rattle.vdb_tree.proofs.Constants.{entries_few}
-use Rattle.vdb_file.specs.Bodies.{key_bytes}
-use Rattle.vdb_file.specs.declared.fault.LoadFault.{LoadFault}
-use Rattle.vdb_file.specs.internal.Loading.{IsIndex, IsKey}
-use Rattle.vdb_file.specs.internal.LoadedFields.{IsNext, ShowsIn, next_bytes}
-use Rattle.vdb_file.specs.internal.Reading.{Fails, Position, Took}
+use Rattle.vdb_file.proofs.Common.{◌≡◌, ℕ, ◌<◌, ◌^◌, Bool, List, refl, sym, ap, subst, arith, Option, w16, to_be_bytes, entries, AreBits, Box, Bits, Coord, Level, Field, entries_few, key_bytes, LoadFault, IsIndex, IsKey, IsNext, ShowsIn, next_bytes, Fails, Position, Took}
 use Rattle.vdb_file.proofs.Unambiguous.{Says}
 use Rattle.vdb_file.proofs.Fronts.{fails_after, fails_first, fails_turn, took_both}
 use Rattle.vdb_file.proofs.Numbers.{says_key, says_u16}

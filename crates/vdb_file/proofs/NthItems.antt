@@ -1,8 +1,6 @@
 -- The answer of an iterator over a list after some items were skipped.
-use Rattle.std.proofs.Common.{◌≡◌, ℕ, List, [], ◌∷◌, ◌++◌, arith, refl, sym, ap, ◌∙◌, append-nil, length, MatchOption}
-use Rattle.std.specs.Prelude.{Option, Some, None, map}
-use Rattle.std.specs.Option.{option_map}
-use Rattle.std.specs.List.{slice_get}
+use Rattle.vdb_file.proofs.Common.{◌≡◌, ℕ, List, [], ◌∷◌, ◌++◌, arith, refl, sym, ap, ◌∙◌, append-nil, length, Option, Some, None, map, option_map, slice_get}
+use Rattle.std.proofs.Common.{MatchOption}
 use Rattle.std.specs.Iterator.{SkipsThenYields, Yields}
 use Rattle.std.proofs.lemmas.List.{length-map}
 use Rattle.std.proofs.lemmas.Option.{slice_get_past}

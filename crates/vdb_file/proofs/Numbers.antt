@@ -1,13 +1,8 @@
 -- Numbers, booleans, keys, and bytes after their count.
-use Rattle.std.proofs.Common.{◌≡◌, ℕ, ◌<◌, ◌^◌, List, length, refl, sym, ap, ◌∙◌}
-use Rattle.std.specs.Prelude.{FitsSigned, ⊤}
-use Rattle.std.specs.Int.{w16, w32, w64, from_be_bytes, to_be_bytes}
+use Rattle.vdb_file.proofs.Common.{◌≡◌, ℕ, ◌<◌, ◌^◌, List, length, refl, sym, ap, ◌∙◌, FitsSigned, ⊤, w16, w32, w64, to_be_bytes, Coord, number_bytes, truth_bytes, key_bytes, counted}
+use Rattle.std.specs.Int.{from_be_bytes}
 use Rattle.std.proofs.lemmas.Nat.{from_be_bytes-to_be_bytes_2, from_be_bytes-to_be_bytes_4}
-use Rattle.vdb_coord.specs.declared.Coord.{Coord}
 use Rattle.vdb_value.specs.Laws.{bool_bytes_exact, i32_bytes_exact, i64_bytes_exact}
-use Rattle.vdb_value.specs.Values.{number_bytes, truth_bytes}
-use Rattle.vdb_file.specs.Bodies.{key_bytes}
-use Rattle.vdb_file.specs.Spelling.{counted}
 use Rattle.vdb_file.proofs.Unambiguous.{IsCode, Says, says_apart, says_behind, says_byte, says_fixed, says_map, says_then}
 
 -- numbers of 16 and of 32 bits

@@ -1,9 +1,9 @@
 -- Bytes that an output appends, and bytes that it writes.
-use Rattle.std.proofs.Common.{◌≡◌, ℕ, ◌+◌, ◌-◌, ◌^◌, List, [], ◌++◌, Option, arith, sym, ap, subst, ◌∙◌, length, length-append, length-drop, min, take, drop, slice_range, take_all}
+use Rattle.vdb_file.proofs.Common.{◌≡◌, ℕ, ◌+◌, ◌-◌, ◌^◌, List, [], ◌++◌, Option, arith, sym, ap, subst, ◌∙◌, length, length-append, length-drop, min, take, drop, Puts, Sent}
+use Rattle.std.proofs.Common.{slice_range, take_all}
 use lib.Seq.{take-add}
 use Rattle.std.specs.Io.KnownBytes.{Appends}
 use Rattle.std.proofs.KnownBytes.{Appends-nil, Appends-trans}
-use Rattle.vdb_file.specs.internal.Written.{Puts, Sent}
 
 -- ---- writing
 

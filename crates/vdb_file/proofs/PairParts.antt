@@ -1,14 +1,6 @@
 -- Reads metadata pairs.
-use Rattle.std.proofs.Common.{◌≡◌, ℕ, true, List, [], ◌∷◌, length, refl, sym, arith}
-use Rattle.std.specs.Prelude.{Option, ⊤}
-use Rattle.std.specs.List.{flat_map}
-use Rattle.std.specs.List.Sorted.{IsStrictlySortedBy}
-use Rattle.vdb_scene.specs.Metas.{is_text}
-use Rattle.vdb_scene.specs.ValidScenes.{ArePairs, IsPair}
-use Rattle.vdb_file.specs.Spelling.{counted, pairs_bytes}
-use Rattle.vdb_file.specs.internal.Parts.{AreItems, IsItem, IsNext, name_of, pair_bytes}
-use Rattle.vdb_file.specs.internal.Reading.{Fails, Position, Took}
-use Rattle.vdb_file.specs.declared.fault.LoadFault.{LoadFault}
+use Rattle.vdb_file.proofs.Common.{◌≡◌, ℕ, true, List, [], ◌∷◌, length, refl, sym, Option, ⊤, flat_map, is_text, ArePairs, IsPair, counted, pairs_bytes, AreItems, IsItem, name_of, pair_bytes, Fails, Position, Took, LoadFault}
+use Rattle.vdb_file.specs.internal.Parts.{IsNext}
 use Rattle.vdb_file.proofs.Unambiguous.{IsCode, says_byte}
 use Rattle.vdb_file.proofs.Numbers.{says_counted}
 use Rattle.vdb_file.proofs.Pairs.{says_pair}
@@ -17,11 +9,6 @@ use Rattle.vdb_file.proofs.Fronts.{fails_after, fails_first, fails_turn, took_bo
 -- the bytes of a pair determine it
 pub pair_code : IsCode IsPair pair_bytes
 pair_code a b pa pb = says_pair a b
-
--- the empty list is a list of pairs
-pub none_are_pairs : ArePairs []
-unfolding IsStrictlySortedBy
-none_are_pairs = record { few = omega arith; in_order = tt; each = tt }
 
 module _ (before : Option (List ℕ)) (fault : LoadFault) (old : Position) where
   -- no key is ahead

@@ -1,9 +1,5 @@
 -- The bytes of metadata pairs determine the pairs.
-use Rattle.std.proofs.Common.{◌≡◌, ℕ, List, ◌++◌, length}
-use Rattle.std.specs.List.{AllByRecursion}
-use Rattle.std.proofs.lemmas.List.Elements.{recursion_from_All}
-use Rattle.vdb_scene.specs.Metas.{Pairs}
-use Rattle.vdb_file.specs.Spelling.{counted, pairs_bytes}
+use Rattle.vdb_file.proofs.Common.{◌≡◌, ℕ, List, ◌++◌, length, AllByRecursion, recursion_from_All, Pairs, counted, pairs_bytes}
 use Rattle.vdb_file.proofs.Unambiguous.{Says, says_all, says_behind, says_byte, says_map, says_then}
 use Rattle.vdb_file.proofs.Numbers.{says_counted}
 

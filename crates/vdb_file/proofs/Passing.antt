@@ -1,12 +1,7 @@
 -- The numbers that pass a test, collected one after another.
-use Rattle.std.proofs.Common.{◌≡◌, ◌⊎◌, inl, inr, ℕ, zero, suc, ◌+◌, ◌-◌, ◌<◌, ◌≤◌, Bool, true, false, cond, not, List, [], ◌∷◌, ◌++◌, arith, refl, sym, ap, subst, ◌∙◌, append-nil, length, length-append, filter, take_all}
-use Rattle.std.specs.Prelude.{Option, Some, take}
-use Rattle.std.specs.List.{flat_map, range_with_len, slice_get}
-use Rattle.std.specs.Int.{w16, to_be_bytes}
-use Rattle.std.proofs.lemmas.Grind.{flat_map-append}
+use Rattle.vdb_file.proofs.Common.{◌≡◌, ◌⊎◌, inl, inr, ℕ, zero, suc, ◌+◌, ◌-◌, ◌<◌, ◌≤◌, Bool, true, false, cond, not, List, [], ◌∷◌, ◌++◌, arith, refl, sym, ap, subst, ◌∙◌, append-nil, length, length-append, Option, Some, take, flat_map, range_with_len, slice_get, w16, to_be_bytes, flat_map-append, IsFirstWithoutAt, Puts, Sent, numbered, passing}
+use Rattle.std.proofs.Common.{filter, take_all}
 use Rattle.std.proofs.lemmas.List.Elements.{filter-append}
-use Rattle.vdb_node.specs.Entries.{IsFirstWithoutAt}
-use Rattle.vdb_file.specs.internal.Written.{Puts, Sent, numbered, passing}
 use Rattle.vdb_file.proofs.Outputs.{puts_same, puts_then}
 
 range_more : (a n : ℕ) → range_with_len a (n + 1) ≡ range_with_len a n ++ (a + n) ∷ []

@@ -1,17 +1,5 @@
 -- Writes the body of a block: its one cell, or its entries one after another.
-use Rattle.std.proofs.Common.{◌≡◌, ℕ, ◌+◌, ◌<◌, ◌≤◌, Bool, true, false, List, ◌∷◌, ◌++◌, sym, subst, ◌∙◌, length}
-use Rattle.std.specs.Int.{w16, to_be_bytes}
-use Rattle.vdb_coord.specs.Blocks.{block_around, entries, sub_block}
-use Rattle.vdb_coord.specs.Space.{Box}
-use Rattle.vdb_coord.specs.declared.Bits.{Bits}
-use Rattle.vdb_coord.specs.declared.Coord.{Coord}
-use Rattle.vdb_coord.specs.declared.Level.{Level}
-use Rattle.vdb_node.specs.Entries.{IsFirstWithoutAt}
-use Rattle.vdb_tree.specs.ConstantBlocks.{is_constant}
-use Rattle.vdb_tree.specs.Field.{Field}
-use Rattle.vdb_value.specs.declared.Cell.{Cell}
-use Rattle.vdb_file.specs.Bodies.{block_bytes, cell_bytes, listed}
-use Rattle.vdb_file.specs.internal.Written.{Puts, Sent, numbered, passing}
+use Rattle.vdb_file.proofs.Common.{◌≡◌, ℕ, ◌+◌, ◌<◌, ◌≤◌, Bool, true, false, List, ◌∷◌, ◌++◌, sym, subst, ◌∙◌, length, w16, to_be_bytes, block_around, entries, sub_block, Box, Bits, Coord, Level, IsFirstWithoutAt, is_constant, Field, Cell, block_bytes, cell_bytes, listed, Puts, Sent, numbered, passing}
 use Rattle.vdb_file.proofs.ListedEntries.{around, flat, listed_is}
 use Rattle.vdb_file.proofs.Outputs.{puts_then}
 use Rattle.vdb_file.proofs.Passing.{entry_put, others, others_end, others_next}

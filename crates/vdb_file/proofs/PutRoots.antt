@@ -1,29 +1,13 @@
 -- The keys of the root blocks written so far, along the keys of the table.
-use Rattle.std.proofs.Common.{◌≡◌, ◌⊎◌, inl, inr, ℕ, Bool, true, false, not, cond, ◌&&◌, List, [], ◌∷◌, ◌++◌, refl, sym, ap, subst, ◌∙◌, append-nil}
-use Rattle.std.specs.Prelude.{Option, Some, None, IsSome}
-use Rattle.std.specs.List.{AllByRecursion, filter, flat_map}
+use Rattle.vdb_file.proofs.Common.{◌≡◌, ◌⊎◌, inl, inr, ℕ, Bool, true, false, not, cond, ◌&&◌, List, [], ◌∷◌, ◌++◌, refl, sym, ap, subst, ◌∙◌, append-nil, Option, Some, None, AllByRecursion, filter, flat_map, Ordering, Less, Equal, Greater, flat_map-append, block, block_around, block_numbers, AreBits, Box, coord_cmp, coordinates, is_inside, Bits, Coord, Upper, number_of_corner, coord_total, is_background, is_uniform, root_keys, off, Layout, field_of, never, Puts, Sent}
+use Rattle.std.specs.Prelude.{IsSome}
 use Rattle.std.specs.Ordering.{is_lt}
-use Rattle.std.specs.declared.cmp.Ordering.{Ordering}
-use Rattle.std.specs.declared.cmp.Ordering.TheVariants.{Less, Equal, Greater}
-use Rattle.std.proofs.lemmas.Grind.{flat_map-append}
-use Rattle.vdb_coord.specs.Blocks.{block, block_around, block_numbers}
-use Rattle.vdb_coord.specs.Entries.{AreBits}
-use Rattle.vdb_coord.specs.Space.{Box, coord_cmp, coordinates, is_inside}
-use Rattle.vdb_coord.specs.declared.Bits.{Bits}
-use Rattle.vdb_coord.specs.declared.Coord.{Coord}
-use Rattle.vdb_coord.specs.declared.Level.TheVariants.{Upper}
 use Rattle.vdb_coord.proofs.BlockOrder.{less_apart}
-use Rattle.vdb_coord.proofs.InRange.{number_of_corner}
-use Rattle.vdb_coord.proofs.Members.{coord_total}
-use Rattle.vdb_tree.specs.ConstantBlocks.{is_background, is_uniform, root_keys}
-use Rattle.vdb_tree.specs.Field.{off}
-use Rattle.vdb_tree.specs.Layout.{Layout, field_of, root_at}
+use Rattle.vdb_tree.specs.Layout.{root_at}
 use Rattle.vdb_tree.specs.Table.{IsNextKey, IsPast}
-use Rattle.vdb_tree.proofs.Blocks.{never}
 use Rattle.vdb_tree.proofs.KeysPast.{past_on}
 use Rattle.vdb_tree.proofs.RootCounts.{at_least, unheld}
 use Rattle.vdb_tree.proofs.Rooted.{rooted}
-use Rattle.vdb_file.specs.internal.Written.{Puts, Sent}
 use Rattle.vdb_file.proofs.Ordered.{at_member, one_kept_more}
 use Rattle.vdb_file.proofs.Outputs.{puts_same, puts_then}
 use Rattle.vdb_file.proofs.Roots.{all_coordinates_have, coordinates_have}

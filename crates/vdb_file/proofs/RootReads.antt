@@ -1,27 +1,6 @@
 -- Reads the root blocks of a field one after another.
-use Rattle.std.proofs.Common.{◌≡◌, ℕ, ◌+◌, ◌<◌, ◌≤◌, ◌^◌, Bool, true, false, List, [], ◌∷◌, ◌++◌, length, length-append, refl, sym, ap, subst, ◌∙◌, arith, inl, inr}
-use Rattle.std.specs.Prelude.{if◌then◌else◌, Option, Some, None, Result, Ok, Err}
-use Rattle.std.specs.List.{Contains, flat_map}
-use Rattle.std.specs.Int.{w32, to_be_bytes}
-use Rattle.std.proofs.lemmas.Bool.{cases_Bool}
-use Rattle.vdb_coord.specs.Blocks.{block, block_around, block_numbers}
-use Rattle.vdb_coord.specs.Entries.{AreBits}
-use Rattle.vdb_coord.specs.Space.{Box, coord_cmp, coordinates, everywhere, is_inside}
-use Rattle.vdb_coord.specs.declared.Bits.{Bits}
-use Rattle.vdb_coord.specs.declared.Coord.{Coord}
-use Rattle.vdb_coord.specs.declared.Level.TheVariants.{Upper}
-use Rattle.vdb_coord.proofs.InRange.{number_of_corner, numbered_in_range}
-use Rattle.vdb_coord.proofs.Nesting.{number_in_block}
-use Rattle.vdb_value.specs.declared.Cell.{Cell}
-use Rattle.vdb_tree.specs.ConstantBlocks.{is_background, root_keys, roots}
-use Rattle.vdb_tree.specs.Field.{Field, field, new, off}
-use Rattle.vdb_tree.proofs.Uniform.{uniform_from}
-use Rattle.vdb_file.specs.Bodies.{key_bytes, root_body, roots_bytes}
-use Rattle.vdb_file.specs.declared.fault.LoadFault.{LoadFault}
-use Rattle.vdb_file.specs.internal.Loading.{IsKey}
-use Rattle.vdb_file.specs.internal.LoadedFields.{AreLoadable, HasCapacityAt, IsNext, IsLoadable, IsWithin, KeptOutside, ShowsIn, ShowsInEach, next_bytes}
-use Rattle.vdb_file.specs.internal.Reading.{Fails, Position, Reads, Took}
-use Rattle.vdb_file.specs.internal.Following.{Follows}
+use Rattle.vdb_file.proofs.Common.{◌≡◌, ℕ, ◌+◌, ◌<◌, ◌≤◌, ◌^◌, Bool, true, false, List, [], ◌∷◌, ◌++◌, length, length-append, refl, sym, ap, subst, ◌∙◌, arith, inl, inr, if◌then◌else◌, Option, Some, None, Result, Ok, Err, Contains, flat_map, w32, to_be_bytes, cases_Bool, block, block_around, block_numbers, AreBits, Box, coord_cmp, coordinates, everywhere, is_inside, Bits, Coord, Upper, number_of_corner, numbered_in_range, number_in_block, Cell, is_background, root_keys, roots, Field, field, new, off, uniform_from, key_bytes, root_body, LoadFault, IsKey, AreLoadable, HasCapacityAt, IsNext, IsLoadable, IsWithin, KeptOutside, ShowsIn, ShowsInEach, next_bytes, Fails, Position, Reads, Took, Follows}
+use Rattle.vdb_file.specs.Bodies.{roots_bytes}
 use Rattle.vdb_file.proofs.Ordered.{last_of}
 use Rattle.vdb_file.proofs.Numbers.{says_u32}
 use Rattle.vdb_file.proofs.Agreement.{Agree, AreValues, both_uniform}

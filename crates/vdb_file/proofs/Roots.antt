@@ -1,31 +1,20 @@
 -- The bytes of all root blocks determine the whole field.
-use Rattle.std.proofs.Common.{◌≡◌, ℕ, suc, ℤ, pos, negsuc, ◌<◌, ◌≤◌, ◌^◌, ◌*ℤ◌, Bool, true, false, List, get_or, sym, ap, subst, ◌∙◌, arith, inl, inr}
-use Rattle.std.specs.Prelude.{FitsSigned}
-use Rattle.std.specs.Int.{w32}
-use Rattle.std.specs.List.{AllByRecursion, Contains}
+use Rattle.vdb_file.proofs.Common.{◌≡◌, ℕ, suc, ℤ, pos, negsuc, ◌<◌, ◌≤◌, ◌^◌, Bool, true, false, List, get_or, sym, ap, subst, ◌∙◌, arith, inl, inr, FitsSigned, w32, AllByRecursion, Contains, cases_Bool, ints, recursion_from_All, block, block_number, block_numbers, AreBits, Box, coord_eq, coordinates, everywhere, is_inside, Bits, Coord, Upper, number_of_corner, coord_equiv, coord_exact, roots, Field, off, key_bytes, root_body}
+use Rattle.std.proofs.Common.{◌*ℤ◌}
 use Rattle.std.proofs.Math.Nat.{le-mul_of_pos_right}
 use Rattle.std.proofs.Math.Pow.{pow_pos}
-use Rattle.std.proofs.lemmas.Bool.{cases_Bool}
-use Rattle.std.proofs.lemmas.Int.{ints}
-use Rattle.std.proofs.lemmas.List.Elements.{recursion_from_All}
 use Rattle.std.proofs.lemmas.List.Sums.{AllPass-from_list_all}
 use Rattle.std.proofs.lemmas.Map.Made.{is_member-Decides}
-use Rattle.vdb_coord.specs.Blocks.{block, block_bits, block_number, block_numbers}
+use Rattle.vdb_coord.specs.Blocks.{block_bits}
 use Rattle.vdb_coord.specs.Components.{number_at}
-use Rattle.vdb_coord.specs.Entries.{AreBits}
-use Rattle.vdb_coord.specs.Space.{Box, coord_eq, coordinates, everywhere, is_between, is_inside}
-use Rattle.vdb_coord.specs.declared.Bits.{Bits}
-use Rattle.vdb_coord.specs.declared.Coord.{Coord}
-use Rattle.vdb_coord.specs.declared.Level.TheVariants.{Upper}
+use Rattle.vdb_coord.specs.Space.{is_between}
 use Rattle.vdb_coord.proofs.Boxes.{three}
 use Rattle.vdb_coord.proofs.Coordinates.{all_coordinates}
-use Rattle.vdb_coord.proofs.InRange.{number_in_range, number_of_corner}
+use Rattle.vdb_coord.proofs.InRange.{number_in_range}
 use Rattle.vdb_coord.proofs.Meeting.{numbered_fits}
-use Rattle.vdb_coord.proofs.Members.{coord_equiv, coord_exact, member_coordinates}
+use Rattle.vdb_coord.proofs.Members.{member_coordinates}
 use Rattle.vdb_coord.proofs.Nesting.{inside_around}
-use Rattle.vdb_tree.specs.ConstantBlocks.{roots}
-use Rattle.vdb_tree.specs.Field.{Field, off}
-use Rattle.vdb_file.specs.Bodies.{key_bytes, root_body, roots_bytes}
+use Rattle.vdb_file.specs.Bodies.{roots_bytes}
 use Rattle.vdb_file.proofs.Unambiguous.{Says, says_map}
 use Rattle.vdb_file.proofs.Numbers.{FitsKey, says_key, says_u32}
 use Rattle.vdb_file.proofs.Agreement.{Agree, AreAlike, AreValues, says_listed}

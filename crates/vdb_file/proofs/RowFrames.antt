@@ -1,21 +1,6 @@
 -- The text of a block depends only on the cells of its coordinates.
-use Rattle.std.proofs.Common.{◌≡◌, ℕ, ◌<◌, Bool, true, not, cond, List, [], ◌∷◌, ◌++◌, length, refl, sym, ap, subst, ◌∙◌}
-use Rattle.std.specs.List.{AllByRecursion, Contains, filter, flat_map}
-use Rattle.std.specs.Int.{w16, to_be_bytes}
-use Rattle.vdb_coord.specs.Blocks.{block, block_around, block_number, entries, entry_numbers, sub_block}
-use Rattle.vdb_coord.specs.Space.{Box, is_inside}
-use Rattle.vdb_coord.specs.declared.Bits.{Bits}
-use Rattle.vdb_coord.specs.declared.Coord.{Coord}
-use Rattle.vdb_coord.specs.declared.Level.{Level}
-use Rattle.vdb_coord.specs.declared.Level.TheVariants.{Leaf, Lower, Upper}
-use Rattle.vdb_coord.proofs.Boxes.{same_truth}
-use Rattle.vdb_coord.proofs.InRange.{number_of_corner}
-use Rattle.vdb_coord.proofs.Nesting.{corner_inside, in_entry, inside_numbered}
-use Rattle.vdb_tree.specs.ConstantBlocks.{is_background, is_constant, is_uniform}
-use Rattle.vdb_tree.specs.Field.{Field, off}
-use Rattle.vdb_tree.proofs.Uniform.{uniform_cells, uniform_from}
-use Rattle.vdb_value.specs.declared.Cell.{Cell}
-use Rattle.vdb_file.specs.Bodies.{block_bytes, cell_bytes, entries_bytes, leaf_body, listed, lower_body, root_body, voxel_body}
+use Rattle.vdb_file.proofs.Common.{◌≡◌, ℕ, ◌<◌, Bool, true, not, cond, List, [], ◌∷◌, ◌++◌, length, refl, sym, ap, subst, ◌∙◌, AllByRecursion, Contains, filter, flat_map, w16, to_be_bytes, block, block_around, block_number, entries, sub_block, Box, is_inside, Bits, Coord, Level, Leaf, Lower, Upper, same_truth, number_of_corner, corner_inside, in_entry, inside_numbered, is_background, is_constant, is_uniform, Field, off, uniform_cells, uniform_from, Cell, block_bytes, cell_bytes, entries_bytes, leaf_body, listed, lower_body, root_body, voxel_body}
+use Rattle.vdb_coord.specs.Blocks.{entry_numbers}
 use Rattle.vdb_file.proofs.Kept.{all_kept, range_below, range_has}
 use Rattle.vdb_file.proofs.Ordered.{at_member, by_member}
 use Rattle.vdb_file.proofs.Agreement.{Agree, AreValues, is_held}

@@ -1,29 +1,11 @@
 -- The entries of a block and the root blocks of a field are rows.
-use Rattle.std.proofs.Common.{◌≡◌, ℕ, zero, suc, ◌+◌, ◌<◌, ◌^◌, Bool, true, List, length, refl, sym, ap, subst, ◌∙◌, arith}
-use Rattle.std.specs.List.{AllByRecursion, Contains, range_with_len}
+use Rattle.vdb_file.proofs.Common.{◌≡◌, ℕ, zero, suc, ◌+◌, ◌<◌, ◌^◌, Bool, true, List, length, refl, sym, ap, subst, ◌∙◌, arith, AllByRecursion, Contains, range_with_len, Less, length-range_with_len, entry_holds, number_in_block, offset_below, w16, to_be_bytes, nat_cmp, block, block_around, block_number, block_numbers, entries, offset, sub_block, AreBits, Box, coord_cmp, coordinates, is_inside, Bits, Coord, Level, Leaf, Lower, Upper, number_of_corner, coord_total, corner_inside, in_entry, Field, entries_few, key_bytes, leaf_body, lower_body, root_body, voxel_body}
 use Rattle.std.specs.Cmp.{nat_cmp_is}
-use Rattle.std.specs.declared.cmp.Ordering.TheVariants.{Less}
-use Rattle.std.proofs.lemmas.List.FromFn.{length-range_with_len}
-use Rattle.vdb_coord.proofs.Nesting.{entry_holds, number_in_block}
-use Rattle.vdb_coord.proofs.Positions.{offset_below}
 use Rattle.vdb_file.proofs.RowFrames.{below_member, member_below}
 use Rattle.std.specs.List.Sorted.{IsStrictlySortedBy}
-use Rattle.std.specs.Int.{w16, to_be_bytes}
-use Rattle.std.specs.Ordering.{nat_cmp}
 use Rattle.std.proofs.lemmas.Cmp.{nat_cmp_total}
-use Rattle.vdb_coord.specs.Blocks.{block, block_around, block_number, block_numbers, entries, entry_numbers, offset, sub_block}
-use Rattle.vdb_coord.specs.Entries.{AreBits}
-use Rattle.vdb_coord.specs.Space.{Box, coord_cmp, coordinates, is_inside}
-use Rattle.vdb_coord.specs.declared.Bits.{Bits}
-use Rattle.vdb_coord.specs.declared.Coord.{Coord}
-use Rattle.vdb_coord.specs.declared.Level.{Level}
-use Rattle.vdb_coord.specs.declared.Level.TheVariants.{Leaf, Lower, Upper}
-use Rattle.vdb_coord.proofs.InRange.{number_of_corner}
-use Rattle.vdb_coord.proofs.Members.{coord_total}
-use Rattle.vdb_coord.proofs.Nesting.{corner_inside, in_entry, same_block}
-use Rattle.vdb_tree.specs.Field.{Field}
-use Rattle.vdb_tree.proofs.Constants.{entries_few}
-use Rattle.vdb_file.specs.Bodies.{key_bytes, leaf_body, lower_body, root_body, voxel_body}
+use Rattle.vdb_coord.specs.Blocks.{entry_numbers}
+use Rattle.vdb_coord.proofs.Nesting.{same_block}
 use Rattle.vdb_file.proofs.Unambiguous.{Says}
 use Rattle.vdb_file.proofs.Numbers.{FitsKey, says_key, says_u16}
 use Rattle.vdb_file.proofs.Agreement.{Agree, AreAlike, AreValues}

@@ -1,19 +1,5 @@
 -- Reads a row entry by entry into a field.
-use Rattle.std.proofs.Common.{◌≡◌, ℕ, ◌+◌, ◌<◌, Bool, true, false, not, List, [], ◌∷◌, length, refl, sym, ap, subst, ◌∙◌, arith, inl, inr, length-append}
-use Rattle.std.specs.Prelude.{Option, Some, None}
-use Rattle.std.specs.List.{Contains, flat_map}
-use Rattle.std.specs.declared.cmp.Ordering.TheVariants.{Less}
-use Rattle.std.proofs.lemmas.Bool.{cases_Bool}
-use Rattle.std.proofs.lemmas.List.Kept.{IsStrictlySortedBy-filter}
-use Rattle.vdb_coord.specs.Space.{Box, is_inside}
-use Rattle.vdb_coord.specs.declared.Coord.{Coord}
-use Rattle.vdb_tree.specs.ConstantBlocks.{is_background}
-use Rattle.vdb_tree.specs.Field.{Field}
-use Rattle.vdb_file.specs.declared.fault.LoadFault.{LoadFault}
-use Rattle.vdb_file.specs.internal.Following.{Follows}
-use Rattle.vdb_file.specs.internal.LeafVoxels.{HasValues}
-use Rattle.vdb_file.specs.internal.LoadedFields.{IsNext, KeptOutside, ShowsIn, ShowsInEach, next_bytes}
-use Rattle.vdb_file.specs.internal.Reading.{Fails, Position, Took}
+use Rattle.vdb_file.proofs.Common.{◌≡◌, ℕ, ◌+◌, ◌<◌, Bool, true, false, not, List, [], ◌∷◌, length, refl, sym, ap, subst, ◌∙◌, arith, inl, inr, length-append, Option, Some, None, Contains, flat_map, Less, cases_Bool, IsStrictlySortedBy-filter, Box, is_inside, Coord, is_background, Field, LoadFault, Follows, HasValues, IsNext, KeptOutside, ShowsIn, ShowsInEach, next_bytes, Fails, Position, Took}
 use Rattle.vdb_file.proofs.Unambiguous.{says_fixed, says_map}
 use Rattle.vdb_file.proofs.Agreement.{AreValues, is_held}
 use Rattle.vdb_file.proofs.Fronts.{fails_turn, took_nothing}

@@ -1,17 +1,5 @@
 -- Reads the entries of a row one after another.
-use Rattle.std.proofs.Common.{◌≡◌, ℕ, suc, zero, ◌<◌, Bool, true, false, not, List, [], ◌∷◌, ◌++◌, length, take, drop, refl, sym, ap, subst, ◌∙◌, append_assoc, append-nil, length-append, length-take, take-append-drop, arith}
-use Rattle.std.specs.Prelude.{Option, None}
-use Rattle.std.specs.List.{AllByRecursion, Contains, flat_map}
-use Rattle.std.proofs.lemmas.Grind.{flat_map-append}
-use Rattle.std.proofs.lemmas.List.Elements.{filter_passes, recursion_from_All}
-use Rattle.std.proofs.lemmas.List.Kept.{IsStrictlySortedBy-filter}
-use Rattle.std.specs.List.Sorted.{IsStrictlySortedBy}
-use Rattle.vdb_tree.specs.ConstantBlocks.{is_background}
-use Rattle.vdb_tree.specs.Field.{Field}
-use Rattle.vdb_file.specs.declared.fault.LoadFault.{LoadFault}
-use Rattle.vdb_file.specs.internal.Following.{Follows}
-use Rattle.vdb_file.specs.internal.LeafVoxels.{HasValues}
-use Rattle.vdb_file.specs.internal.Reading.{Fails, NoFront, Position, Took}
+use Rattle.vdb_file.proofs.Common.{◌≡◌, ℕ, suc, zero, ◌<◌, Bool, true, false, not, List, [], ◌∷◌, ◌++◌, length, take, drop, refl, sym, ap, subst, ◌∙◌, append_assoc, append-nil, length-append, length-take, take-append-drop, arith, Option, None, AllByRecursion, Contains, flat_map, flat_map-append, filter_passes, recursion_from_All, IsStrictlySortedBy-filter, IsStrictlySortedBy, is_background, Field, LoadFault, Follows, HasValues, Fails, NoFront, Position, Took}
 use Rattle.vdb_file.proofs.Unambiguous.{IsCode, Says, says_each, says_map, says_then}
 use Rattle.vdb_file.proofs.Agreement.{Agree, AreAlike, AreValues, is_held, says_listed, says_one}
 use Rattle.vdb_file.proofs.Ordered.{by_member, last_of, next_follows}

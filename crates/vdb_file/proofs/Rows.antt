@@ -1,21 +1,6 @@
 -- Rows: keys in strict order, each with a box and a code. A row lists the keys whose box holds anything but the background of a field.
-use Rattle.std.proofs.Common.{◌≡◌, ℕ, Bool, true, false, not, List, [], ◌∷◌, ◌++◌, refl, sym, ap, subst, ◌∙◌, append-nil, inl, inr}
-use Rattle.std.specs.Prelude.{Some, None}
-use Rattle.std.specs.List.{AllByRecursion, Contains, filter, flat_map}
+use Rattle.vdb_file.proofs.Common.{◌≡◌, ℕ, Bool, true, false, not, List, [], ◌∷◌, ◌++◌, refl, sym, ap, subst, ◌∙◌, append-nil, inl, inr, Some, None, AllByRecursion, Contains, filter, flat_map, IsStrictlySortedBy-filter, IsTotalOrder, Ordering, Less, cases_Bool, flat_map-append, not_true, Box, is_inside, Coord, is_background, Field, Follows, HasValues}
 use Rattle.std.specs.List.Sorted.{IsStrictlySortedBy}
-use Rattle.std.proofs.lemmas.List.Kept.{IsStrictlySortedBy-filter}
-use Rattle.std.specs.Cmp.{IsTotalOrder}
-use Rattle.std.specs.declared.cmp.Ordering.{Ordering}
-use Rattle.std.specs.declared.cmp.Ordering.TheVariants.{Less}
-use Rattle.std.proofs.lemmas.Bool.{cases_Bool}
-use Rattle.std.proofs.lemmas.Grind.{flat_map-append}
-use Rattle.vdb_coord.proofs.Boxes.{not_true}
-use Rattle.vdb_coord.specs.Space.{Box, is_inside}
-use Rattle.vdb_coord.specs.declared.Coord.{Coord}
-use Rattle.vdb_tree.specs.ConstantBlocks.{is_background}
-use Rattle.vdb_tree.specs.Field.{Field}
-use Rattle.vdb_file.specs.internal.Following.{Follows}
-use Rattle.vdb_file.specs.internal.LeafVoxels.{HasValues}
 use Rattle.vdb_file.proofs.Unambiguous.{IsCode, Says}
 use Rattle.vdb_file.proofs.Agreement.{Agree, AreAlike, AreValues, is_held}
 use Rattle.vdb_file.proofs.Kept.{all_kept, at_kept}

@@ -1,23 +1,9 @@
 -- The grids of a scene by their names.
-use Rattle.std.proofs.Common.{◌≡◌, ℕ, zero, suc, true, false, cond, List, [], ◌∷◌, ◌++◌, refl, ap, subst, ◌∙◌}
-use Rattle.std.specs.Prelude.{Option, Some, None, map}
-use Rattle.std.specs.Option.{option_map}
-use Rattle.std.specs.Int.{w32, to_be_bytes}
-use Rattle.std.specs.List.{AllByRecursion, slice_get}
+use Rattle.vdb_file.proofs.Common.{◌≡◌, ℕ, zero, suc, true, false, cond, List, [], ◌∷◌, ◌++◌, refl, ap, subst, ◌∙◌, Option, Some, None, map, option_map, w32, to_be_bytes, AllByRecursion, slice_get, nat_list_cmp_total, slice_cmp, nat_cmp, ordering_reverse, Ordering, Less, Equal, Greater, vdb, Field, Pairs, scalar_bytes, scalar_eq, Grid, Scene, grid_at, Scalar, roots_bytes, counted, grid_bytes, head_bytes, kind_bytes, pairs_bytes}
 use Rattle.std.specs.List.Sorted.{IsStrictlySortedBy}
-use Rattle.std.specs.Cmp.Lexicographic.{nat_list_cmp_total, slice_cmp}
 use Rattle.std.specs.Map.{lookup}
-use Rattle.std.specs.Ordering.{is_eq, nat_cmp, ordering_reverse}
-use Rattle.std.specs.declared.cmp.Ordering.{Ordering}
-use Rattle.std.specs.declared.cmp.Ordering.TheVariants.{Less, Equal, Greater}
-use Rattle.vdb_coord.specs.Blocks.{vdb}
-use Rattle.vdb_tree.specs.Field.{Field}
-use Rattle.vdb_scene.specs.Metas.{Pairs}
-use Rattle.vdb_scene.specs.Scalars.{scalar_bytes, scalar_eq}
-use Rattle.vdb_scene.specs.Scene.{Grid, Scene, grid_at, is_named}
-use Rattle.vdb_scene.specs.declared.scalar.Scalar.{Scalar}
-use Rattle.vdb_file.specs.Bodies.{roots_bytes}
-use Rattle.vdb_file.specs.Spelling.{counted, grid_bytes, head_bytes, kind_bytes, pairs_bytes}
+use Rattle.std.specs.Ordering.{is_eq}
+use Rattle.vdb_scene.specs.Scene.{is_named}
 use Rattle.vdb_file.proofs.Passing.{same_some}
 
 abbrev cmp : List ℕ → List ℕ → Ordering

@@ -1,15 +1,8 @@
 -- Reads scenes and files.
-use Rattle.std.proofs.Common.{◌≡◌, false, ℕ, ◌<◌, ◌≤◌, ◌^◌, List, [], ◌++◌, length, refl, sym, ap, subst, arith}
-use Rattle.std.specs.Prelude.{codes, ⊤}
-use Rattle.std.specs.List.{flat_map}
-use Rattle.std.specs.Int.{w16, to_be_bytes}
-use Rattle.vdb_scene.specs.Scene.{Grid, Scene, new_grid}
+use Rattle.vdb_file.proofs.Common.{◌≡◌, false, ℕ, ◌<◌, ◌≤◌, ◌^◌, List, [], ◌++◌, length, refl, sym, ap, subst, arith, codes, ⊤, flat_map, w16, to_be_bytes, Grid, Scene, AreItems, IsFile, IsNamed, IsSceneOf, bytes_of_file, name_of, named_bytes, version_number, Fails, Position, Took, LoadFault, Version, One, Two}
+use Rattle.vdb_scene.specs.Scene.{new_grid}
 use Rattle.vdb_scene.specs.declared.scalar.Scalar.TheVariants.{Bool as truth}
-use Rattle.vdb_file.specs.internal.Parts.{AreItems, IsFile, IsNamed, IsSceneOf, bytes_of_file, name_of, named_bytes, scene_bytes, version_number}
-use Rattle.vdb_file.specs.internal.Reading.{Fails, Position, Took}
-use Rattle.vdb_file.specs.declared.fault.LoadFault.{LoadFault}
-use Rattle.vdb_file.specs.declared.loading.versions.Version.{Version}
-use Rattle.vdb_file.specs.declared.loading.versions.Version.TheVariants.{One, Two}
+use Rattle.vdb_file.specs.internal.Parts.{scene_bytes}
 use Rattle.vdb_file.proofs.Unambiguous.{says_fixed}
 use Rattle.vdb_file.proofs.Numbers.{says_u16}
 use Rattle.vdb_file.proofs.Beginnings.{small_version, version_bytes}

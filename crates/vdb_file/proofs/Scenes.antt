@@ -1,18 +1,5 @@
 -- The bytes of a file determine the scene that it encodes.
-use Rattle.std.proofs.Common.{◌≡◌, inl, inr, ℕ, ◌<◌, ◌≤◌, ◌^◌, true, List, [], ◌∷◌, ◌++◌, length, refl, sym, subst, ◌∙◌, append-nil, arith}
-use Rattle.std.specs.Prelude.{codes}
-use Rattle.std.specs.List.{AllByRecursion, flat_map}
-use Rattle.std.specs.Int.{w16, to_be_bytes}
-use Rattle.vdb_coord.specs.Blocks.{vdb}
-use Rattle.vdb_value.specs.declared.Kind.{Kind}
-use Rattle.vdb_tree.specs.ConstantBlocks.{roots}
-use Rattle.vdb_tree.specs.Field.{Field}
-use Rattle.vdb_scene.specs.Scalars.{kind_of, scalar_bytes, scalar_eq}
-use Rattle.vdb_scene.specs.Scene.{Grid, Scene}
-use Rattle.vdb_scene.specs.declared.scalar.Scalar.{Scalar}
-use Rattle.vdb_file.specs.Bodies.{roots_bytes}
-use Rattle.vdb_scene.specs.ValidScenes.{IsField, IsGrid, IsScene, is_value_of}
-use Rattle.vdb_file.specs.Spelling.{IsFileOf, IsOldGrid, file_bytes, grid_bytes, head_bytes, spelling}
+use Rattle.vdb_file.proofs.Common.{◌≡◌, inl, inr, ℕ, ◌<◌, ◌≤◌, ◌^◌, true, List, [], ◌∷◌, ◌++◌, length, refl, sym, subst, ◌∙◌, append-nil, arith, codes, AllByRecursion, flat_map, w16, to_be_bytes, vdb, Kind, roots, Field, kind_of, scalar_bytes, scalar_eq, Grid, Scene, Scalar, roots_bytes, IsField, IsGrid, IsScene, is_value_of, IsFileOf, IsOldGrid, file_bytes, grid_bytes, head_bytes, spelling}
 use Rattle.vdb_file.proofs.Unambiguous.{IsCode, Says, says_all, says_behind, says_fixed, says_map, says_then, says_whole}
 use Rattle.vdb_file.proofs.Numbers.{says_counted, says_u16, says_u32}
 use Rattle.vdb_scene.proofs.ScalarValues.{scalar_exact, scalar_itself}

@@ -1,13 +1,8 @@
 -- The coordinates of a box are sorted.
-use Rattle.std.proofs.Common.{◌≡◌, ℕ, zero, suc, ℤ, pos, ◌+◌, ◌<◌, ◌≤◌, ◌+ℤ◌, ◌<ℤ◌, List, [], ◌∷◌, ◌++◌, arith, refl, sym, ap, subst, ◌∙◌, inl, inr, subst₂}
-use Rattle.std.proofs.lemmas.Int.{ints}
-use Rattle.std.specs.Prelude.{map}
-use Rattle.std.specs.List.{AllByRecursion, flat_map, range_with_len}
+use Rattle.vdb_file.proofs.Common.{◌≡◌, ℕ, zero, suc, ℤ, pos, ◌+◌, ◌<◌, ◌≤◌, List, [], ◌∷◌, ◌++◌, arith, refl, sym, ap, subst, ◌∙◌, inl, inr, ints, map, AllByRecursion, flat_map, range_with_len, Ordering, Less, Box, coord, coord_cmp, Coord}
+use Rattle.std.proofs.Common.{◌+ℤ◌, ◌<ℤ◌, subst₂}
 use Rattle.std.specs.List.Sorted.{IsStrictlySortedBy}
-use Rattle.std.specs.declared.cmp.Ordering.{Ordering}
-use Rattle.std.specs.declared.cmp.Ordering.TheVariants.{Less}
-use Rattle.vdb_coord.specs.Space.{Box, coord, coord_cmp, coordinates, extent, range}
-use Rattle.vdb_coord.specs.declared.Coord.{Coord}
+use Rattle.vdb_coord.specs.Space.{coordinates, extent, range}
 use Rattle.vdb_coord.proofs.BlockOrder.{key_less}
 
 -- ---- lists whose members all have something

@@ -1,7 +1,6 @@
 -- The standard tree: its bits, and the size of its leaves.
-use Rattle.std.proofs.Common.{ℕ, ◌+◌, ◌*◌, ◌^◌, ◌<◌, ◌≤◌, arith, max}
-use Rattle.vdb_coord.specs.Blocks.{vdb}
-use Rattle.vdb_coord.specs.Entries.{AreBits}
+use Rattle.vdb_file.proofs.Common.{ℕ, ◌+◌, ◌*◌, ◌^◌, ◌<◌, ◌≤◌, arith, vdb, AreBits}
+use Rattle.std.proofs.Common.{max}
 use Rattle.vdb_tree.proofs.Sizes.{leaf_small}
 use prog.Memory.{up}
 

@@ -1,16 +1,7 @@
 -- Reads bytes after their count.
-use Rattle.std.proofs.Common.{◌≡◌, ℕ, Bool, true, false, List, [], ◌∷◌, length, refl, sym, subst, ◌∙◌, append-nil}
-use Rattle.std.specs.Prelude.{◌&&◌, ⊤}
-use Rattle.vdb_file.specs.Spelling.{counted}
-use Rattle.vdb_file.specs.internal.Reading.{Fails, Position, Took}
-use Rattle.vdb_file.specs.declared.fault.LoadFault.{LoadFault}
+use Rattle.vdb_file.proofs.Common.{◌≡◌, ℕ, List, [], ◌∷◌, length, refl, sym, subst, ◌∙◌, append-nil, ⊤, counted, Fails, Position, Took, LoadFault}
 use Rattle.vdb_file.proofs.Unambiguous.{says_byte, says_fixed}
 use Rattle.vdb_file.proofs.Fronts.{fails_after, fails_first, fails_none, fails_turn}
-
-third : (a b c : Bool) → (a && b && c) ≡ true → c ≡ true
-third true true c h = h
-third true false c h = cc
-third false b c h = cc
 
 module _ (P : List ℕ → Type 0) (fault : LoadFault) (old : Position) where
   -- no count is ahead

@@ -1,25 +1,7 @@
 -- Converts a grid of one type of values to a grid of any type, and back.
-use Rattle.std.proofs.Common.{◌≡◌, ℕ, ◌≤◌, Bool, true, false, List, [], ◌∷◌, ◌++◌, length, refl, sym, ap, subst, ◌∙◌, inl, inr}
-use Rattle.std.proofs.lemmas.Bool.{cases_Bool}
-use Rattle.vdb_coord.specs.Blocks.{vdb}
-use Rattle.vdb_coord.specs.Space.{everywhere, is_inside}
-use Rattle.vdb_coord.specs.declared.Coord.{Coord}
-use Rattle.vdb_value.specs.declared.Cell.{Cell}
-use Rattle.vdb_value.specs.declared.Kind.{Kind}
-use Rattle.vdb_tree.specs.ConstantBlocks.{roots}
-use Rattle.vdb_tree.specs.Field.{Field, as_cell_of, as_field_of, field, off}
-use Rattle.vdb_tree.specs.Layout.{Layout, field_of}
-use Rattle.vdb_scene.specs.Metas.{Pairs}
-use Rattle.vdb_scene.specs.Scalars.{kind_of, scalar_bytes, scalar_eq}
-use Rattle.vdb_scene.specs.Scene.{Grid}
-use Rattle.vdb_scene.specs.declared.scalar.Scalar.{Scalar}
-use Rattle.vdb_file.specs.Bodies.{roots_bytes}
-use Rattle.vdb_scene.specs.ValidScenes.{IsField, is_value_of}
-use Rattle.vdb_file.specs.Spelling.{kind_bytes, kind_code}
-use Rattle.vdb_file.specs.internal.Parts.{IsBody, IsLoadedGrid, LoadedGrid, body_bytes, head_code, head_of, loaded, loaded_bytes}
-use Rattle.vdb_file.specs.internal.Reading.{Fails, Position, Took}
-use Rattle.vdb_file.specs.declared.fault.LoadFault.{LoadFault}
-use Rattle.vdb_file.specs.declared.loading.versions.Version.{Version}
+use Rattle.vdb_file.proofs.Common.{◌≡◌, ℕ, ◌≤◌, Bool, true, false, List, [], ◌∷◌, ◌++◌, length, refl, sym, ap, subst, ◌∙◌, inl, inr, cases_Bool, vdb, everywhere, is_inside, Coord, Cell, Kind, roots, Field, as_field_of, field, off, Layout, field_of, Pairs, kind_of, scalar_bytes, scalar_eq, Grid, Scalar, roots_bytes, IsField, is_value_of, kind_bytes, kind_code, IsBody, IsLoadedGrid, LoadedGrid, body_bytes, head_code, head_of, loaded_bytes, Fails, Position, Took, LoadFault, Version}
+use Rattle.vdb_tree.specs.Field.{as_cell_of}
+use Rattle.vdb_file.specs.internal.Parts.{loaded}
 use Rattle.vdb_file.proofs.Fronts.{fails_after, fails_turn, took_both}
 use Rattle.vdb_file.proofs.MadeBodies.{made_keys, made_roots}
 use Rattle.vdb_file.proofs.Values.{says_kind}

@@ -1,6 +1,5 @@
 -- Texts that determine their meaning, whatever follows them, and how such texts combine.
-use Rattle.std.proofs.Common.{◌≡◌, ℕ, Bool, true, false, cond, List, [], ◌∷◌, ◌++◌, length, take, drop, refl, sym, ◌∙◌, append_assoc, append-nil, arith}
-use Rattle.std.specs.List.{AllByRecursion, flat_map}
+use Rattle.vdb_file.proofs.Common.{◌≡◌, ℕ, Bool, true, false, cond, List, [], ◌∷◌, ◌++◌, length, take, drop, refl, sym, ◌∙◌, append_assoc, append-nil, arith, AllByRecursion, flat_map}
 use Rattle.std.proofs.Math.Seq.{drop-append_seam, take-append_seam}
 
 -- if two texts begin one text, C holds, and what follows them is equal

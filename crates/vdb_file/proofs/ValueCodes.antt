@@ -1,9 +1,7 @@
 -- The bytes of values of one type determine the values.
-use Rattle.std.proofs.Common.{◌≡◌, ℕ, Bool, true, false, ◌&&◌, ◌==◌, List, length, sym, ◌∙◌, arith}
-use Rattle.std.specs.Prelude.{IsTrue}
+use Rattle.vdb_file.proofs.Common.{◌≡◌, ℕ, Bool, true, false, ◌&&◌, List, length, sym, ◌∙◌, arith, IsTrue, are_bytes_of, byte_count, Kind}
+use Rattle.std.proofs.Common.{◌==◌}
 use Rattle.std.proofs.lemmas.Bool.Decides.{nat_tests}
-use Rattle.vdb_value.specs.Values.{are_bytes_of, byte_count}
-use Rattle.vdb_value.specs.declared.Kind.{Kind}
 use Rattle.vdb_value.specs.declared.Kind.TheVariants as kinds
 use Rattle.vdb_file.proofs.Unambiguous.{IsCode, says_fixed, says_map}
 

@@ -1,16 +1,7 @@
 -- Values of the three types: their bytes and their types.
-use Rattle.std.proofs.Common.{◌≡◌, ℤ, pos, negsuc, true, [], ◌∷◌, refl, ap, subst, arith}
-use Rattle.std.specs.Prelude.{FitsSigned}
-use Rattle.std.specs.Int.{w32, w64}
-use Rattle.std.proofs.lemmas.Int.{ints}
-use Rattle.vdb_value.specs.Values.{has_number}
-use Rattle.vdb_value.specs.declared.Kind.{Kind}
+use Rattle.vdb_file.proofs.Common.{◌≡◌, ℤ, pos, negsuc, true, [], ◌∷◌, refl, ap, subst, arith, FitsSigned, w32, w64, ints, has_number, Kind, kind_of, scalar_bytes, Scalar, I32, I64, is_value_of, kind_bytes, kind_code}
 use Rattle.vdb_value.specs.declared.Kind.TheVariants as kinds
-use Rattle.vdb_scene.specs.Scalars.{kind_of, scalar_bytes}
-use Rattle.vdb_scene.specs.declared.scalar.Scalar.{Scalar}
-use Rattle.vdb_scene.specs.declared.scalar.Scalar.TheVariants.{Bool as truth, I32, I64}
-use Rattle.vdb_scene.specs.ValidScenes.{is_value_of}
-use Rattle.vdb_file.specs.Spelling.{kind_bytes, kind_code}
+use Rattle.vdb_scene.specs.declared.scalar.Scalar.TheVariants.{Bool as truth}
 use Rattle.vdb_file.proofs.Unambiguous.{IsCode, Says, says_behind, says_byte, says_map}
 use Rattle.vdb_file.proofs.Numbers.{says_i32, says_i64, says_truth}
 

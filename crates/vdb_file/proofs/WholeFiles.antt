@@ -1,18 +1,6 @@
 -- What is known of all bytes of a reader after a file was read from it, or not.
-use Rattle.std.proofs.Common.{◌≡◌, inl, inr, ℕ, ◌<◌, ◌≤◌, List, [], ◌∷◌, ◌++◌, length, refl, sym, ap, subst, ◌∙◌, append-nil, arith}
-use Rattle.std.specs.Prelude.{Option, Some, None, IfSome}
-use Rattle.std.specs.List.{AllByRecursion}
-use Rattle.std.specs.Io.KnownBytes.{Consumes, IsAtEnd, Keeps, prepend_known}
-use Rattle.vdb_scene.specs.Scene.{Grid, Scene}
-use Rattle.vdb_file.specs.Faults.{BeginsAsFile, Claims}
-use Rattle.vdb_scene.specs.ValidScenes.{IsGrid, IsScene}
+use Rattle.vdb_file.proofs.Common.{◌≡◌, inl, inr, ℕ, ◌<◌, ◌≤◌, List, [], ◌∷◌, ◌++◌, length, refl, sym, ap, subst, ◌∙◌, append-nil, arith, Option, Some, None, IfSome, AllByRecursion, Consumes, IsAtEnd, Keeps, prepend_known, Grid, Scene, BeginsAsFile, Claims, IsGrid, IsScene, IsFileOf, IsOldGrid, IsFile, IsNamed, IsSceneOf, bytes_of_file, Fails, Position, Took, LoadFault, Version, One, Two}
 use Rattle.vdb_file.specs.Scenes.{BeginsWithFile, EndsEarly}
-use Rattle.vdb_file.specs.Spelling.{IsFileOf, IsOldGrid}
-use Rattle.vdb_file.specs.internal.Parts.{IsFile, IsNamed, IsSceneOf, bytes_of_file}
-use Rattle.vdb_file.specs.internal.Reading.{Fails, Position, Took}
-use Rattle.vdb_file.specs.declared.fault.LoadFault.{LoadFault}
-use Rattle.vdb_file.specs.declared.loading.versions.Version.{Version}
-use Rattle.vdb_file.specs.declared.loading.versions.Version.TheVariants.{One, Two}
 use Rattle.vdb_file.proofs.Fronts.{some_turn}
 use Rattle.vdb_file.proofs.GridParts.{named_grid}
 use Rattle.vdb_file.proofs.Scenes.{no_prefix}

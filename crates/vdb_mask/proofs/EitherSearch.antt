@@ -1,11 +1,5 @@
 -- The first index that is on in one of two rows, from a word that has a 1 at each such bit.
-use Rattle.std.proofs.Common.{◌≡◌, ◌+◌, ◌-◌, ◌*◌, ◌%◌, ◌^◌, ◌<◌, ◌≤◌, ℕ, Bool, true, false, List, get_or, refl, sym, ◌∙◌, inl, inr, arith, w64}
-use Rattle.std.specs.Prelude.{◌||◌, bit_and, bit_or, not}
-use Rattle.std.specs.Int.{bit_at, trailing_zeros}
-use Rattle.std.proofs.lemmas.Bool.{cases_lt}
-use Rattle.std.proofs.lemmas.Nat.{and_le_l}
-use Rattle.std.proofs.lemmas.Nat.Bits.{bit_at_and, bit_at-lt, bit_at_mask_below, bit_at_mask_inside, bit_at-trailing_zeros, bit_at-zero, ones_shl}
-use Rattle.vdb_mask.specs.Mask.{bits_of, has_bit, is_on, is_value, IsFirstOnAt}
+use Rattle.vdb_mask.proofs.Common.{◌≡◌, ◌+◌, ◌-◌, ◌*◌, ◌%◌, ◌^◌, ◌<◌, ◌≤◌, ℕ, Bool, true, false, List, get_or, refl, sym, ◌∙◌, inl, inr, arith, w64, ◌||◌, bit_and, bit_or, not, bit_at, trailing_zeros, cases_lt, and_le_l, bit_at_and, bit_at-lt, bit_at_mask_below, bit_at_mask_inside, bit_at-trailing_zeros, bit_at-zero, ones_shl, bits_of, has_bit, is_on, is_value, IsFirstOnAt}
 use Rattle.vdb_mask.proofs.RowBits.{is_on-at}
 use Rattle.vdb_mask.proofs.WordBits.{has_bit-or}
 

@@ -1,9 +1,7 @@
 -- A search of a row's first words is a search of the row, up to their end.
-use Rattle.std.proofs.Common.{◌≡◌, ◌+◌, ◌*◌, ◌/◌, ◌%◌, ◌<◌, ◌≤◌, ℕ, Bool, true, false, List, length, min, take, sym, ◌∙◌, refl, arith}
+use Rattle.vdb_mask.proofs.Common.{◌≡◌, ◌+◌, ◌*◌, ◌/◌, ◌%◌, ◌<◌, ◌≤◌, ℕ, Bool, true, false, List, length, min, take, sym, ◌∙◌, refl, arith, ◌||◌, not, bits_of, is_on, is_value, IsFirstOnAt, IsNextAt}
 use Rattle.std.specs.Int.{div_ceil}
-use Rattle.std.specs.Prelude.{◌||◌, not}
 use Rattle.std.proofs.lemmas.List.{length-take-le}
-use Rattle.vdb_mask.specs.Mask.{bits_of, is_on, is_value, IsFirstOnAt, IsNextAt}
 use Rattle.vdb_mask.proofs.RowBits.{is_on-take}
 
 -- the words that hold the first `to` values

@@ -1,3 +1,4 @@
+mod Common
 pub mod EitherSearch
 pub mod FirstWords
 pub mod Loops

@@ -1,8 +1,5 @@
 -- What a loop that combines two rows word by word keeps true.
-use Rattle.std.proofs.Common.{◌≡◌, ◌/◌, ◌%◌, ◌^◌, ◌<◌, ◌≤◌, ℕ, Bool, List, length, get_or, sym, ◌∙◌, inl, inr, arith}
-use Rattle.std.proofs.lemmas.Bool.{cases_lt}
-use Rattle.std.proofs.lemmas.List.{get_or_past}
-use Rattle.vdb_mask.specs.Mask.{bits_of, has_bit, is_on}
+use Rattle.vdb_mask.proofs.Common.{◌≡◌, ◌/◌, ◌%◌, ◌^◌, ◌<◌, ◌≤◌, ℕ, Bool, List, length, get_or, sym, ◌∙◌, inl, inr, arith, cases_lt, get_or_past, bits_of, has_bit, is_on}
 use Rattle.vdb_mask.proofs.RowBits.{is_on-bits_of}
 
 -- the first k words are combined, the others are as before

@@ -1,5 +1,5 @@
 -- For callers: how the count of a mask and its first indices follow from its values.
-use Rattle.std.proofs.Common.{◌≡◌, ◌≢◌, ◌+◌, ◌<◌, ◌≤◌, ℕ, Bool, true, false, List, Option, Some, None, cond, zero, suc, refl, sym, ◌∙◌, inl, inr, arith}
+use Rattle.std.proofs.Common.{◌≡◌, ◌+◌, ◌<◌, ◌≤◌, ℕ, Bool, true, false, List, Option, Some, None, cond, zero, suc, refl, ◌∙◌, inl, inr, arith}
 use Rattle.std.specs.List.{count_by, range_with_len}
 use Rattle.std.proofs.lemmas.Bool.{cases_Bool, cases_lt}
 use Rattle.std.proofs.lemmas.Bool.Decides.{eqb_tells}
@@ -34,14 +34,6 @@ on_count-more mask n =
     let same : n + 1 ≡ suc n = omega arith in
     rw same (on_count-suc mask n)
 
--- the step at a value that is on
-pub on_count-more_on : (mask : List Bool) (n : ℕ) → is_on mask n ≡ true → on_count mask (n + 1) ≡ on_count mask n + 1
-on_count-more_on mask n here = on_count-more mask n ∙ rw here refl
-
--- the step at a value that is off
-pub on_count-more_off : (mask : List Bool) (n : ℕ) → is_on mask n ≡ false → on_count mask (n + 1) ≡ on_count mask n
-on_count-more_off mask n here = on_count-more mask n ∙ rw here (omega arith)
-
 -- at most n of n values are on
 pub on_count-le : (mask : List Bool) (n : ℕ) → on_count mask n ≤ n
 on_count-le mask zero = omega (arith, on_count-zero mask)
@@ -50,13 +42,6 @@ on_count-le mask (suc n) =
       | inl e ↦ let step = rw e at (on_count-suc mask n) in omega (arith, step, on_count-le mask n)
       | inr e ↦ let step = rw e at (on_count-suc mask n) in omega (arith, step, on_count-le mask n)
     ]
-
--- masks that agree on the first n values have the same count of them
-pub on_count-same : (mask other : List Bool) (n : ℕ) → ((i : ℕ) → i < n → is_on mask i ≡ is_on other i) → on_count mask n ≡ on_count other n
-on_count-same mask other zero same = on_count-zero mask ∙ sym (on_count-zero other)
-on_count-same mask other (suc n) same =
-    let before = on_count-same mask other n (λ i h. same i (omega (arith, h))) in
-    on_count-suc mask n ∙ (rw (same n (omega arith), before) (sym (on_count-suc other n)))
 
 -- if a mask is off from m on, its first n values have as many on as its first m
 pub on_count-past : (mask : List Bool) (m n : ℕ) → m ≤ n → ((i : ℕ) → m ≤ i → i < n → is_on mask i ≡ false) → on_count mask n ≡ on_count mask m
@@ -71,68 +56,6 @@ on_count-past mask m (suc n) h off =
           on_count-suc mask n ∙ (rw (off n (omega (arith, h, e.1)) (omega arith)) (omega (arith, before)))
     ]
 
--- if the first n values of a mask are off, none of them is on
-pub on_count-all_off : (mask : List Bool) (n : ℕ) → ((i : ℕ) → i < n → is_on mask i ≡ false) → on_count mask n ≡ 0
-on_count-all_off mask n off = on_count-past mask 0 n (omega arith) (λ i _ h. off i h) ∙ on_count-zero mask
-
--- if the first n values of a mask are on, all n are on
-pub on_count-all_on : (mask : List Bool) (n : ℕ) → ((i : ℕ) → i < n → is_on mask i ≡ true) → on_count mask n ≡ n
-on_count-all_on mask zero on = on_count-zero mask
-on_count-all_on mask (suc n) on =
-    let before = on_count-all_on mask n (λ i h. on i (omega (arith, h))) in
-    on_count-suc mask n ∙ (rw (on n (omega arith)) (omega (arith, before)))
-
--- a count of 0 says that each value is off
-pub all_off-on_count : (mask : List Bool) (n : ℕ) → on_count mask n ≡ 0 → (i : ℕ) → i < n → is_on mask i ≡ false
-all_off-on_count mask zero none i h = absurd (omega (arith, h))
-all_off-on_count mask (suc n) none i h =
-    elim (cases_Bool (is_on mask n)) [
-      | inl e ↦ absurd (let step = rw e at (on_count-suc mask n) in omega (arith, step, none))
-      | inr e ↦
-          let step = rw e at (on_count-suc mask n) in
-          elim (eqb_tells i n) [
-            | inl same ↦ rw same.1 e
-            | inr other ↦ all_off-on_count mask n (omega (arith, step, none)) i (omega (arith, h, other.1))
-          ]
-    ]
-
--- a count of n says that each value is on
-pub all_on-on_count : (mask : List Bool) (n : ℕ) → on_count mask n ≡ n → (i : ℕ) → i < n → is_on mask i ≡ true
-all_on-on_count mask zero all i h = absurd (omega (arith, h))
-all_on-on_count mask (suc n) all i h =
-    elim (cases_Bool (is_on mask n)) [
-      | inl e ↦
-          let step = rw e at (on_count-suc mask n) in
-          elim (eqb_tells i n) [
-            | inl same ↦ rw same.1 e
-            | inr other ↦ all_on-on_count mask n (omega (arith, step, all)) i (omega (arith, h, other.1))
-          ]
-      | inr e ↦ absurd (let step = rw e at (on_count-suc mask n) in omega (arith, step, all, on_count-le mask n))
-    ]
-
--- one value turned on, the others as before, is one more
-pub on_count-turned_on : (old new : List Bool) (index n : ℕ) → index < n → is_on old index ≡ false → is_on new index ≡ true
-    → ((i : ℕ) → i ≢ index → is_on new i ≡ is_on old i) → on_count new n ≡ on_count old n + 1
-on_count-turned_on old new index zero h was is others = absurd (omega (arith, h))
-on_count-turned_on old new index (suc n) h was is others =
-    elim (eqb_tells index n) [
-      | inl e ↦
-          let was_there : is_on old n ≡ false = rw e.1 at was in
-          let is_there : is_on new n ≡ true = rw e.1 at is in
-          let before = on_count-same new old n (λ i below. others i (λ same. omega (arith, below, same, e.1))) in
-          let step_new = rw is_there at (on_count-suc new n) in
-          let step_old = rw was_there at (on_count-suc old n) in
-          omega (arith, before, step_new, step_old)
-      | inr e ↦
-          let before = on_count-turned_on old new index n (omega (arith, h, e.1)) was is others in
-          on_count-suc new n ∙ (rw (others n (λ same. e.1 (sym same))) (omega (arith, before, on_count-suc old n)))
-    ]
-
--- one value turned off, the others as before, is one less
-pub on_count-turned_off : (old new : List Bool) (index n : ℕ) → index < n → is_on old index ≡ true → is_on new index ≡ false
-    → ((i : ℕ) → i ≢ index → is_on new i ≡ is_on old i) → on_count new n + 1 ≡ on_count old n
-on_count-turned_off old new index n h was is others = sym (on_count-turned_on new old index n h is was (λ i other. sym (others i other)))
-
 -- if a mask is off from m on, an index below n that is on is below m
 pub below_from_on : (mask : List Bool) (m n index : ℕ) → ((i : ℕ) → m ≤ i → i < n → is_on mask i ≡ false) → index < n → is_on mask index ≡ true → index < m
 below_from_on mask m n index off within here =
@@ -144,10 +67,6 @@ below_from_on mask m n index off within here =
 -- the first index below n, if it is below m, is the first below m
 pub IsNextAt-below : (value : Bool) (mask : List Bool) (m n from index : ℕ) → index < m → IsNextAt value mask n from index → IsNextAt value mask m from index
 IsNextAt-below value mask m n from index h next = record { within = h; from_on = next.from_on; here = next.here; before = next.before }
-
--- the first index below n, if it is not below m, says that none is below m
-pub IsNextAt-none_below : (value : Bool) (mask : List Bool) (m n from index : ℕ) → m ≤ index → IsNextAt value mask n from index → IsNext value mask m from None
-IsNextAt-none_below value mask m n from index h next = λ i least below. next.before i least (omega (arith, below, h))
 
 -- if a mask is off from m on, the first index on and below n is the first below m: so `next_on` answers an index below m
 pub IsNext-on_below : (mask : List Bool) (m n from : ℕ) (result : Option ℕ) → m ≤ n → ((i : ℕ) → m ≤ i → i < n → is_on mask i ≡ false)

@@ -1,11 +1,9 @@
 -- The bits of a row of words.
-use Rattle.std.proofs.Common.{◌≡◌, ◌≢◌, ◌+◌, ◌*◌, ◌/◌, ◌%◌, ◌^◌, ◌<◌, ◌≤◌, ℕ, false, List, length, get_or, set, take, replicate, refl, sym, ◌∙◌, inl, inr, arith, get_or-set_other, get_or-set_same}
-use Rattle.std.specs.Int.{bit_at}
-use Rattle.std.proofs.lemmas.Bool.{cases_lt}
-use Rattle.std.proofs.lemmas.Bool.Decides.{eqb_tells}
-use Rattle.std.proofs.lemmas.List.{get_or_past, get_or-replicate, get_or-take, length-replicate}
+use Rattle.vdb_mask.proofs.Common.{◌≡◌, ◌≢◌, ◌+◌, ◌*◌, ◌/◌, ◌%◌, ◌^◌, ◌<◌, ◌≤◌, ℕ, false, List, length, get_or, set, take, refl, sym, ◌∙◌, inl, inr, arith, bit_at, cases_lt, eqb_tells, get_or_past, has_bit, is_on}
+use Rattle.std.proofs.Common.{replicate, get_or-set_other, get_or-set_same}
+use Rattle.std.proofs.lemmas.List.{get_or-replicate, get_or-take, length-replicate}
 use Rattle.std.proofs.lemmas.List.FromFn.{get_or-map-range_with_len, length-map-range_with_len}
-use Rattle.vdb_mask.specs.Mask.{bit_of, bits_of, has_bit, is_on}
+use Rattle.vdb_mask.specs.Mask.{bit_of, bits_of}
 use Rattle.vdb_mask.proofs.WordBits.{has_bit-zero, same_from_has_bit}
 
 -- a row has 64 bits a word

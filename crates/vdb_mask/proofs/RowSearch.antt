@@ -1,11 +1,5 @@
 -- The first bit of a row that has a given value, from a word that has a 1 at each such bit.
-use Rattle.std.proofs.Common.{◌≡◌, ◌+◌, ◌-◌, ◌*◌, ◌%◌, ◌^◌, ◌<◌, ◌≤◌, ℕ, Bool, List, length, get_or, sym, ◌∙◌, inl, inr, arith, w64}
-use Rattle.std.specs.Prelude.{bit_and, not}
-use Rattle.std.specs.Int.{bit_at, trailing_zeros}
-use Rattle.std.proofs.lemmas.Bool.{cases_lt}
-use Rattle.std.proofs.lemmas.Nat.{and_le_l}
-use Rattle.std.proofs.lemmas.Nat.Bits.{bit_at_and, bit_at-lt, bit_at_mask_below, bit_at_mask_inside, bit_at-trailing_zeros, bit_at-zero, ones_shl}
-use Rattle.vdb_mask.specs.Mask.{bits_of, has_bit, is_on, IsNextAt}
+use Rattle.vdb_mask.proofs.Common.{◌≡◌, ◌+◌, ◌-◌, ◌*◌, ◌%◌, ◌^◌, ◌<◌, ◌≤◌, ℕ, Bool, List, length, get_or, sym, ◌∙◌, inl, inr, arith, w64, bit_and, not, bit_at, trailing_zeros, cases_lt, and_le_l, bit_at_and, bit_at-lt, bit_at_mask_below, bit_at_mask_inside, bit_at-trailing_zeros, bit_at-zero, ones_shl, bits_of, has_bit, is_on, IsNextAt}
 use Rattle.vdb_mask.proofs.RowBits.{is_on-at}
 
 -- from bit r on, a 1 of `found` is a bit of `word` with this value, and a 0 one without

@@ -1,9 +1,6 @@
 -- The bits of a run in one word, and a row with such a word written.
-use Rattle.std.proofs.Common.{◌≡◌, ◌≢◌, ◌+◌, ◌-◌, ◌*◌, ◌/◌, ◌%◌, ◌^◌, ◌<◌, ◌≤◌, ℕ, Bool, true, false, List, length, get_or, set, refl, sym, ◌∙◌, inl, inr, arith}
-use Rattle.std.specs.Prelude.{bit_and}
-use Rattle.std.proofs.lemmas.Bool.{cases_lt}
-use Rattle.std.proofs.lemmas.Nat.Bits.{bit_at_mask_below, bit_at_mask_inside, bit_at_ones, bit_at_ones_above, ones_shl, ones_shr}
-use Rattle.vdb_mask.specs.Mask.{bits_of, has_bit, is_on}
+use Rattle.vdb_mask.proofs.Common.{◌≡◌, ◌≢◌, ◌+◌, ◌-◌, ◌*◌, ◌/◌, ◌%◌, ◌^◌, ◌<◌, ◌≤◌, ℕ, Bool, true, false, List, length, get_or, set, refl, sym, ◌∙◌, inl, inr, arith, bit_and, cases_lt, bit_at_mask_below, bit_at_mask_inside, bit_at_ones, ones_shl, bits_of, has_bit, is_on}
+use Rattle.std.proofs.lemmas.Nat.Bits.{bit_at_ones_above, ones_shr}
 use Rattle.vdb_mask.proofs.RowBits.{is_on-at, is_on-set_here, is_on-set_other}
 use Rattle.vdb_mask.proofs.WordBits.{has_bit-and}
 

@@ -1,9 +1,6 @@
 -- The bits of one word.
-use Rattle.std.proofs.Common.{◌≡◌, ◌-◌, ◌^◌, ◌<◌, ℕ, true, false, zero, suc, max, min, refl, arith, w64}
-use Rattle.std.specs.Prelude.{◌==◌, ◌&&◌, ◌||◌, not, bit_and, bit_or}
-use Rattle.std.specs.Int.{bit_not}
-use Rattle.std.proofs.lemmas.Nat.Bits.{bit_at_and, bit_at_not, bit_at_or, bit_at-lt, bit_at_ones, bit_at-zero, same_from_bits_below}
-use Rattle.vdb_mask.specs.Mask.{has_bit}
+use Rattle.vdb_mask.proofs.Common.{◌≡◌, ◌-◌, ◌^◌, ◌<◌, ℕ, true, false, zero, suc, max, min, refl, arith, w64, ◌==◌, ◌&&◌, ◌||◌, not, bit_and, bit_or, bit_not, bit_at_and, bit_at_not, bit_at-lt, bit_at_ones, bit_at-zero, has_bit}
+use Rattle.std.proofs.lemmas.Nat.Bits.{bit_at_or, same_from_bits_below}
 
 one-max : (a b : ℕ) → a < 2 → b < 2 → (max a b == 1) ≡ (a == 1 || b == 1)
 one-max zero zero _ _ = refl

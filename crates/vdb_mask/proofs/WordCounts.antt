@@ -1,12 +1,10 @@
 -- How many values of a mask are on, word by word: for callers, and for the count of a row.
-use Rattle.std.proofs.Common.{◌≡◌, ◌+◌, ◌*◌, ◌%◌, ◌^◌, ◌<◌, ◌≤◌, ℕ, Bool, List, cond, zero, suc, refl, sym, arith, pow_pos}
-use Rattle.std.specs.Prelude.{◌==◌, count_ones}
-use Rattle.std.specs.Int.{bit_at}
+use Rattle.vdb_mask.proofs.Common.{◌≡◌, ◌+◌, ◌*◌, ◌%◌, ◌^◌, ◌<◌, ◌≤◌, ℕ, Bool, List, cond, zero, suc, refl, sym, arith, ◌==◌, bit_at, bit_at-lt, has_bit, is_on, on_count}
+use Rattle.std.proofs.Common.{pow_pos}
+use Rattle.std.specs.Prelude.{count_ones}
 use Rattle.std.specs.Int.Count.{ones}
 use Rattle.std.proofs.Math.Nat.{mod-lt}
 use Rattle.std.proofs.lemmas.Nat.{mod-pow-add, ones_cat}
-use Rattle.std.proofs.lemmas.Nat.Bits.{bit_at-lt}
-use Rattle.vdb_mask.specs.Mask.{has_bit, is_on, on_count}
 use Rattle.vdb_mask.proofs.MaskLemmas.{on_count-more}
 
 one-count_ones : (bit : ℕ) → bit < 2 → count_ones bit ≡ cond (bit == 1) 1 0

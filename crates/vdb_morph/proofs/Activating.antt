@@ -1,18 +1,9 @@
 -- Fields made active by tests of their voxels.
-use Rattle.std.proofs.Common.{◌≡◌, refl, sym, ap, ◌∙◌, inl, inr, ℕ, ◌+◌, ◌<◌, Bool, false, ◌||◌, List, [], ◌∷◌, get_or, take, filter_map, IsTrue}
-use Rattle.std.specs.List.{list_any}
-use Rattle.std.proofs.Math.Bool.{or_assoc, or-false}
-use Rattle.std.proofs.Math.Path.{fun_ext}
+use Rattle.vdb_morph.proofs.Common.{◌≡◌, refl, sym, ap, ◌∙◌, inl, inr, ℕ, ◌+◌, ◌<◌, Bool, false, ◌||◌, List, [], ◌∷◌, get_or, take, IsTrue, list_any, or-false, fun_ext, faces, neighbour, neighbours, toward, everywhere, is_inside, Coord, Face, Field, field, same_cells, Cell, spread, with_active}
+use Rattle.std.proofs.Common.{filter_map}
+use Rattle.std.proofs.Math.Bool.{or_assoc}
 use Rattle.std.proofs.lemmas.Bool.{cases_Bool}
 use Rattle.std.proofs.lemmas.List.Folds.{list_any_more}
-use Rattle.vdb_coord.specs.Faces.{faces, neighbour, neighbours, toward}
-use Rattle.vdb_coord.specs.Space.{everywhere, is_inside}
-use Rattle.vdb_coord.specs.declared.Coord.{Coord}
-use Rattle.vdb_coord.specs.declared.face.Face.{Face}
-use Rattle.vdb_tree.specs.Field.{Field, field}
-use Rattle.vdb_tree.proofs.Fields.{same_cells}
-use Rattle.vdb_value.specs.declared.Cell.{Cell}
-use Rattle.vdb_morph.specs.internal.Iterating.{spread, with_active}
 
 -- ---- one test after another
 

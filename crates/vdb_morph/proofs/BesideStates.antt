@@ -1,24 +1,6 @@
 -- The bit beside another is the state behind a face.
-use Rattle.std.proofs.Common.{Bool, true, ◌≡◌, ◌+◌, ◌-◌, ◌*◌, ◌/◌, ◌%◌, ◌<◌, ◌≤◌, ℕ, ℤ, pos, ◌+ℤ◌, ◌-ℤ◌, ◌*ℤ◌, false, List, [], ◌∷◌, refl, sym, ap, ◌∙◌, inl, inr, arith}
-use Rattle.std.specs.Prelude.{◌&&◌, if◌then◌else◌}
-use Rattle.std.specs.List.{list_any}
-use Rattle.std.proofs.lemmas.Bool.Decides.{eqb_tells}
-use Rattle.std.proofs.lemmas.Int.{ints}
-use Rattle.vdb_coord.specs.Blocks.{offset, vdb}
-use Rattle.vdb_coord.specs.Faces.{faces, toward}
-use Rattle.vdb_coord.specs.Space.{coord, coord_eq}
-use Rattle.vdb_coord.specs.declared.Coord.{Coord}
-use Rattle.vdb_coord.specs.declared.Level.TheVariants.{Leaf}
-use Rattle.vdb_coord.specs.declared.face.Face.{Face}
-use Rattle.vdb_coord.specs.declared.face.Face.TheVariants.{MinusX, PlusX, MinusY, PlusY, MinusZ, PlusZ}
-use Rattle.vdb_coord.proofs.Boxes.{not_true}
-use Rattle.vdb_coord.proofs.Division.{parts, quotient, quotient_of, rest, rest_below, rest_of}
-use Rattle.vdb_coord.proofs.Members.{coord_equiv, coord_exact}
-use Rattle.vdb_mask.specs.Mask.{is_on}
-use Rattle.vdb_morph.specs.internal.Behind.{state_beside}
-use Rattle.vdb_node.specs.Beside.{bit_after, bit_before}
-use Rattle.vdb_morph.specs.internal.Beside.{bit_beside, is_on_beside}
-use Rattle.vdb_morph.specs.internal.Iterating.{is_around}
+use Rattle.vdb_morph.proofs.Common.{Bool, true, ◌≡◌, ◌+◌, ◌-◌, ◌*◌, ◌/◌, ◌%◌, ◌<◌, ◌≤◌, ℕ, ℤ, pos, ◌+ℤ◌, ◌-ℤ◌, ◌*ℤ◌, false, List, [], ◌∷◌, refl, sym, ap, ◌∙◌, inl, inr, arith, ◌&&◌, if◌then◌else◌, list_any, eqb_tells, ints, offset, vdb, faces, toward, coord, coord_eq, Coord, Leaf, Face, MinusX, PlusX, MinusY, PlusY, MinusZ, PlusZ, not_true, parts, quotient, quotient_of, rest, rest_below, coord_equiv, coord_exact, is_on, state_beside, bit_after, bit_before, bit_beside, is_on_beside, is_around}
+use Rattle.vdb_coord.proofs.Division.{rest_of}
 
 -- ---- one component
 

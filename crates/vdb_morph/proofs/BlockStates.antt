@@ -1,27 +1,11 @@
 -- A leaf extent with the cells of another field, and its states in a mask.
-use Rattle.std.proofs.Common.{◌≡◌, refl, sym, ap, subst, ◌∙◌, ℕ, ◌*◌, ◌<◌, ◌≤◌, arith, Bool, true, false, cond, List, inl, inr, IsTrue}
-use Rattle.std.specs.Prelude.{slice_index_or}
+use Rattle.vdb_morph.proofs.Common.{◌≡◌, refl, sym, ap, subst, ◌∙◌, ℕ, ◌*◌, ◌<◌, ◌≤◌, arith, Bool, true, false, cond, List, inl, inr, IsTrue, slice_index_or, block_number, offset, everywhere, is_inside, Bits, Coord, Leaf, coord_exact, entries_is, offset_below, is_on, IsConstantLeaf, entry_count, Cell, Field, field, off, IsLeafAround, with_leaf, cell_inside, same_cells, bool_cases, coord_cases, like_coords, unlike_coords, HasStates, is_around, taken, topology}
 use Rattle.std.proofs.Math.Bool.{beq}
 use Rattle.std.specs.Cmp.{bool_eq_equiv, booleans_Decides}
-use Rattle.vdb_coord.specs.Blocks.{block_number, offset}
-use Rattle.vdb_coord.specs.Space.{everywhere, is_inside}
-use Rattle.vdb_coord.specs.declared.Bits.{Bits}
-use Rattle.vdb_coord.specs.declared.Coord.{Coord}
-use Rattle.vdb_coord.specs.declared.Level.TheVariants.{Leaf}
-use Rattle.vdb_coord.proofs.Members.{coord_exact}
-use Rattle.vdb_coord.proofs.Positions.{entries_is, offset_below}
-use Rattle.vdb_mask.specs.Mask.{is_on}
-use Rattle.vdb_node.specs.Leaf.{cell_in, IsConstantLeaf, Leaf as LeafOf}
-use Rattle.vdb_node.specs.Nodes.{entry_count}
-use Rattle.vdb_value.specs.declared.Cell.{Cell}
+use Rattle.vdb_node.specs.Leaf.{cell_in, Leaf as LeafOf}
 use Rattle.vdb_tree.specs.ConstantBlocks.{cell_eq}
-use Rattle.vdb_tree.specs.Field.{Field, field, off}
-use Rattle.vdb_tree.specs.Leaves.{IsLeafAround, with_leaf}
-use Rattle.vdb_tree.proofs.Fields.{cell_inside, same_cells}
-use Rattle.vdb_tree.proofs.Levels.{bool_cases, coord_cases, like_coords, unlike_coords}
 use Rattle.vdb_tree.proofs.Uniform.{cell_exact}
-use Rattle.vdb_morph.specs.internal.BlockStates.{HasStates, of_mask}
-use Rattle.vdb_morph.specs.internal.Iterating.{is_around, taken, topology}
+use Rattle.vdb_morph.specs.internal.BlockStates.{of_mask}
 
 -- a coordinate in p's leaf extent has p's block number
 pub around_number : (bits : Bits) (p q : Coord) → IsTrue (is_around bits p q) → block_number bits Leaf q ≡ block_number bits Leaf p

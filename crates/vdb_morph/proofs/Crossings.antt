@@ -1,25 +1,11 @@
 -- A step behind a face leads into the same leaf extent or into the one behind that face.
-use Rattle.std.proofs.Common.{◌≡◌, ◌∙◌, sym, refl, ap, ℕ, ℤ, pos, ◌-◌, ◌<◌, ◌^◌, ◌+ℤ◌, ◌-ℤ◌, ◌*ℤ◌, inl, inr, ◌⊎◌, arith}
-use Rattle.std.specs.Prelude.{false, Option, Some, None, IfSome, IsNone}
+use Rattle.vdb_morph.proofs.Common.{◌≡◌, ◌∙◌, sym, refl, ap, ℕ, ℤ, pos, ◌-◌, ◌<◌, ◌^◌, ◌+ℤ◌, ◌-ℤ◌, ◌*ℤ◌, inl, inr, ◌⊎◌, arith, false, Option, Some, None, IfSome, IsNone, eqb_tells, ints, block_around, block_number, block_numbers, vdb, AreBits, neighbour, toward, coord, everywhere, is_inside, Bits, Coord, Leaf, Face, MinusX, PlusX, MinusY, PlusY, MinusZ, PlusZ, parts, quotient, quotient_of, rest, rest_below, not_true, layer, opposite}
 use Rattle.std.proofs.Math.IntN.{pred_ℤ-*ℤ, suc_ℤ-*ℤ, -ℤ_one, +ℤ_one, +ℤ_idr, +ℤ-neg_ℤ_cancel, -ℤ-+ℤ_cancel}
-use Rattle.std.proofs.lemmas.Bool.Decides.{eqb_tells}
-use Rattle.std.proofs.lemmas.Int.{ints}
 use Rattle.std.proofs.lemmas.Nat.{pow_pos}
-use Rattle.vdb_coord.specs.Blocks.{block, block_around, block_number, block_numbers, vdb}
+use Rattle.vdb_coord.specs.Blocks.{block}
 use Rattle.vdb_coord.specs.Components.{first_of, last_of, number_at}
-use Rattle.vdb_coord.specs.Entries.{AreBits}
-use Rattle.vdb_coord.specs.Faces.{neighbour, toward}
-use Rattle.vdb_coord.specs.Space.{coord, everywhere, is_inside}
-use Rattle.vdb_coord.specs.declared.Bits.{Bits}
-use Rattle.vdb_coord.specs.declared.Coord.{Coord}
-use Rattle.vdb_coord.specs.declared.Level.TheVariants.{Leaf}
-use Rattle.vdb_coord.specs.declared.face.Face.{Face}
-use Rattle.vdb_coord.specs.declared.face.Face.TheVariants.{MinusX, PlusX, MinusY, PlusY, MinusZ, PlusZ}
-use Rattle.vdb_coord.proofs.Division.{parts, quotient, quotient_of, rest, rest_below}
-use Rattle.vdb_coord.proofs.Boxes.{not_true}
 use Rattle.vdb_coord.proofs.InRange.{numbered_in_range}
 use Rattle.vdb_coord.proofs.Meeting.{number_of_first}
-use Rattle.vdb_morph.specs.internal.Behind.{layer, opposite}
 use Rattle.vdb_morph.proofs.Layers.{apart, no_neighbour, some_neighbour}
 
 -- the bits that nodes of a standard tree have

@@ -1,24 +1,8 @@
 -- Erosion face by face, in a leaf extent and at a voxel.
-use Rattle.std.proofs.Common.{◌≡◌, refl, sym, ap, ◌∙◌, ℕ, ◌+◌, ◌<◌, Bool, true, false, List, [], ◌∷◌, take, get_or, inl, inr, IsTrue}
-use Rattle.std.specs.Prelude.{◌&&◌, if◌then◌else◌}
-use Rattle.std.specs.List.{filter_map, list_all}
+use Rattle.vdb_morph.proofs.Common.{◌≡◌, refl, sym, ap, ◌∙◌, ℕ, ◌+◌, ◌<◌, Bool, true, false, List, [], ◌∷◌, take, get_or, inl, inr, IsTrue, ◌&&◌, if◌then◌else◌, filter_map, list_all, block_number, block_numbers, offset, AreBits, faces, neighbour, toward, everywhere, is_inside, Bits, Coord, Leaf, Face, block_in_range, number_in_range, is_on, Field, erode, bool_cases, state_beside, HasStates, state_behind, is_around}
 use Rattle.std.proofs.Math.Bool.{and-true}
 use Rattle.std.proofs.lemmas.List.Folds.{list_all_more}
-use Rattle.vdb_coord.specs.Blocks.{block_number, block_numbers, offset}
-use Rattle.vdb_coord.specs.Entries.{AreBits}
-use Rattle.vdb_coord.specs.Faces.{faces, neighbour, toward}
-use Rattle.vdb_coord.specs.Space.{everywhere, is_inside}
-use Rattle.vdb_coord.specs.declared.Bits.{Bits}
-use Rattle.vdb_coord.specs.declared.Coord.{Coord}
-use Rattle.vdb_coord.specs.declared.Level.TheVariants.{Leaf}
-use Rattle.vdb_coord.specs.declared.face.Face.{Face}
-use Rattle.vdb_coord.proofs.InRange.{block_in_range, number_in_range}
-use Rattle.vdb_mask.specs.Mask.{is_on}
-use Rattle.vdb_tree.specs.Field.{Field, erode}
-use Rattle.vdb_tree.proofs.Levels.{bool_cases}
-use Rattle.vdb_morph.specs.internal.Behind.{state_beside}
-use Rattle.vdb_morph.specs.internal.BlockStates.{HasStates, HasStatesBehind, state_behind}
-use Rattle.vdb_morph.specs.internal.Iterating.{is_around}
+use Rattle.vdb_morph.specs.internal.BlockStates.{HasStatesBehind}
 use Rattle.vdb_morph.proofs.BlockStates.{around_number, number_around}
 use Rattle.vdb_morph.proofs.Crossings.{crosses}
 

@@ -1,33 +1,11 @@
 -- The states of a field in the course of an iteration of erosion, from block to block and from part to part.
-use Rattle.std.proofs.Common.{◌≡◌, ◌⊎◌, ◌<◌, arith, inl, inr, refl, ap, subst, sym, ◌∙◌, Bool, true, false, not, cond, ◌&&◌, IsTrue}
-use Rattle.std.specs.List.{list_all}
-use Rattle.std.specs.Prelude.{Option, Some, None, IfSome}
-use Rattle.vdb_coord.specs.Blocks.{block_around, block_number}
-use Rattle.vdb_coord.specs.Boxes.{is_bounds}
-use Rattle.vdb_coord.specs.Faces.{neighbours}
+use Rattle.vdb_morph.proofs.Common.{◌≡◌, ◌⊎◌, ◌<◌, arith, inl, inr, refl, ap, subst, sym, ◌∙◌, Bool, true, false, not, cond, ◌&&◌, IsTrue, list_all, Option, Some, None, IfSome, block_around, block_number, is_bounds, neighbours, Box, coord_eq, everywhere, is_box, is_inside, is_within, Bits, Coord, Leaf, not_before_min, both, within_each, coord_equiv, number_in_block, Field, erode, field, off, Layout, field_of, IsSkipped, Passes, TreeWalk, YieldsBox, is_left, left_count, Skip, Inactive, cell_inside, same_cells, bool_cases, Cell, Erodes, IsEither, IsEroded, is_around, taken, topology}
 use Rattle.vdb_coord.specs.Order.{ComesBefore, IsNextCoord, coordinates_past}
-use Rattle.vdb_coord.specs.Space.{Box, coord_eq, everywhere, is_box, is_inside, is_within}
-use Rattle.vdb_coord.specs.declared.Bits.{Bits}
-use Rattle.vdb_coord.specs.declared.Coord.{Coord}
-use Rattle.vdb_coord.specs.declared.Level.TheVariants.{Leaf}
-use Rattle.vdb_coord.proofs.BlockOrder.{not_before_min}
-use Rattle.vdb_coord.proofs.Boxes.{both}
-use Rattle.vdb_coord.proofs.Meeting.{within_each}
-use Rattle.vdb_coord.proofs.Members.{coord_equiv}
-use Rattle.vdb_coord.proofs.Nesting.{number_in_block}
 use Rattle.vdb_coord.proofs.Walk.{min_inside}
 use Rattle.vdb_node.specs.Leaf.{Leaf as LeafOf}
-use Rattle.vdb_tree.specs.Field.{Field, as_cell_of, erode, field, off}
-use Rattle.vdb_tree.specs.Layout.{Layout, field_of}
-use Rattle.vdb_tree.specs.Parts.{IsPartOfLeaf, IsSkipped, Passes, TreeWalk, YieldsBox, is_left, left_count}
-use Rattle.vdb_tree.specs.declared.queries.parts.Skip.{Skip}
-use Rattle.vdb_tree.specs.declared.queries.parts.Skip.TheVariants.{Inactive}
-use Rattle.vdb_tree.proofs.Fields.{cell_inside, same_cells}
-use Rattle.vdb_tree.proofs.Levels.{bool_cases}
+use Rattle.vdb_tree.specs.Field.{as_cell_of}
+use Rattle.vdb_tree.specs.Parts.{IsPartOfLeaf}
 use Rattle.vdb_tree.proofs.PartStarts.{gone_before}
-use Rattle.vdb_value.specs.declared.Cell.{Cell}
-use Rattle.vdb_morph.specs.internal.Eroding.{Erodes, IsEither, IsEroded}
-use Rattle.vdb_morph.specs.internal.Iterating.{is_around, taken, topology}
 
 -- ---- boxes
 

@@ -1,24 +1,15 @@
 -- Iterations of dilation and of erosion, and the states that they leave.
-use Rattle.std.proofs.Common.{◌≡◌, refl, sym, ap, subst, ◌∙◌, ℕ, zero, suc, ◌+◌, ◌≤◌, Bool, true, false, ◌&&◌, ◌||◌, inl, inr, arith}
-use Rattle.std.specs.List.{list_all, list_any}
-use Rattle.std.specs.Prelude.{IfOk, Result, Ok, Err, Some}
+use Rattle.vdb_morph.proofs.Common.{◌≡◌, refl, sym, ap, subst, ◌∙◌, ℕ, ◌+◌, ◌≤◌, Bool, true, false, ◌&&◌, ◌||◌, inl, inr, arith, list_all, list_any, Result, Ok, Err, Some, neighbours, Bits, Coord, and_true, both, same_truth, Cell, Field, dilate, erode, field, iterations, unite, same_cells, or_cases, or_first, or_second, TreeRefusal, topology}
+use Rattle.std.proofs.Common.{zero, suc}
+use Rattle.std.specs.Prelude.{IfOk}
 use Rattle.std.specs.Result.{result_ok}
-use Rattle.vdb_coord.specs.Faces.{neighbours}
-use Rattle.vdb_coord.specs.declared.Bits.{Bits}
-use Rattle.vdb_coord.specs.declared.Coord.{Coord}
-use Rattle.vdb_coord.proofs.Boxes.{and_true, both, same_truth}
-use Rattle.vdb_value.specs.declared.Cell.{Cell}
 use Rattle.vdb_tree.specs.ConstantBlocks.{roots}
-use Rattle.vdb_tree.specs.Field.{Field, dilate, erode, field, intersect, iterations, unite}
+use Rattle.vdb_tree.specs.Field.{intersect}
 use Rattle.vdb_tree.specs.declared.pairs.StateRule.TheVariants.{Intersect}
-use Rattle.vdb_tree.proofs.Fields.{same_cells}
-use Rattle.vdb_tree.proofs.Rooted.{or_cases, or_first, or_second}
 use Rattle.vdb_tree.proofs.RuledRoots.{no_unite_intersect, ruled_within}
 use Rattle.vdb_tree.specs.Outcome.{IsOutcome}
-use Rattle.vdb_tree.specs.declared.refusal.TreeRefusal.{TreeRefusal}
 use Rattle.vdb_tree.specs.declared.refusal.TreeRefusal.TheVariants.{Memory, RootLimit}
 use Rattle.vdb_morph.specs.Growth.{IsGrowth}
-use Rattle.vdb_morph.specs.internal.Iterating.{topology}
 use Rattle.vdb_morph.proofs.Neighbours.{InRange, all_near, any_near}
 
 -- a fact for each accepted call holds for its result

@@ -1,15 +1,9 @@
 -- The voxels right behind a face of a box: those of the box at the face, a step on.
-use Rattle.std.proofs.Common.{◌≡◌, ◌∙◌, sym, refl, ap, true, false, Bool, not, ◌&&◌, if◌then◌else◌, ℤ, pos, negsuc, ◌+ℤ◌, ◌-ℤ◌, int_le, Option, Some, None, arith}
-use Rattle.std.specs.Prelude.{IfSome, IsNone}
-use Rattle.std.proofs.lemmas.Int.{ints}
-use Rattle.vdb_coord.specs.Boxes.{box_of, is_bounds}
-use Rattle.vdb_coord.specs.Faces.{neighbour, toward}
-use Rattle.vdb_coord.specs.Space.{Box, everywhere, is_between, is_box, is_inside, is_within}
-use Rattle.vdb_coord.specs.declared.Coord.{Coord}
-use Rattle.vdb_coord.specs.declared.face.Face.{Face}
-use Rattle.vdb_coord.specs.declared.face.Face.TheVariants.{MinusX, PlusX, MinusY, PlusY, MinusZ, PlusZ}
-use Rattle.vdb_coord.proofs.Boxes.{both, box_from_inside, box_of_none, box_of_some, not_true, three, together}
-use Rattle.vdb_morph.specs.internal.Behind.{is_behind, layer}
+use Rattle.vdb_morph.proofs.Common.{◌≡◌, ◌∙◌, sym, refl, ap, true, false, Bool, not, ◌&&◌, if◌then◌else◌, ℤ, pos, ◌+ℤ◌, ◌-ℤ◌, Option, Some, None, arith, IfSome, IsNone, ints, is_bounds, neighbour, toward, Box, everywhere, is_box, is_inside, is_within, Coord, Face, MinusX, PlusX, MinusY, PlusY, MinusZ, PlusZ, both, box_from_inside, not_true, is_behind, layer}
+use Rattle.std.proofs.Common.{negsuc, int_le}
+use Rattle.vdb_coord.specs.Boxes.{box_of}
+use Rattle.vdb_coord.specs.Space.{is_between}
+use Rattle.vdb_coord.proofs.Boxes.{box_of_none, box_of_some, three, together}
 
 -- ---- one axis
 

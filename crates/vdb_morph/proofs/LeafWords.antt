@@ -1,11 +1,8 @@
 -- From the words of leaves to their bits.
-use Rattle.std.proofs.Common.{◌≡◌, ◌≢◌, ◌+◌, ◌-◌, ◌*◌, ◌/◌, ◌%◌, ◌<◌, ◌≤◌, ℕ, Bool, true, false, List, [], subst, refl, sym, ◌∙◌, inl, inr, arith}
-use Rattle.std.specs.Prelude.{◌||◌, bit_or}
+use Rattle.vdb_morph.proofs.Common.{◌≡◌, ◌≢◌, ◌+◌, ◌-◌, ◌*◌, ◌/◌, ◌%◌, ◌<◌, ◌≤◌, ℕ, Bool, true, false, List, [], subst, refl, sym, ◌∙◌, inl, inr, arith, ◌||◌, eqb_tells, has_bit, is_on, bit_after, bit_before}
+use Rattle.std.specs.Prelude.{bit_or}
 use Rattle.std.proofs.lemmas.Bool.{cases_lt}
-use Rattle.std.proofs.lemmas.Bool.Decides.{eqb_tells}
-use Rattle.vdb_mask.specs.Mask.{has_bit, is_on}
 use Rattle.vdb_mask.proofs.WordBits.{has_bit-or, has_bit-zero}
-use Rattle.vdb_node.specs.Beside.{bit_after, bit_before}
 
 -- a word is the k-th of a mask
 abbrev pub IsWord : List Bool → ℕ → ℕ → Type 0

@@ -1,4 +1,5 @@
 -- Lemmas on what lies behind faces, on marks in trees of states, and on the states of leaf extents.
+mod Common
 pub mod Layers
 pub mod Crossings
 pub mod Marks

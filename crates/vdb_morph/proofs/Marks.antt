@@ -1,23 +1,10 @@
 -- A field of states after marks are added to a leaf extent.
-use Rattle.std.proofs.Common.{◌≡◌, ◌≢◌, ◌∙◌, sym, refl, ap, ◌<◌, ℕ, Bool, true, false, ◌&&◌, ◌||◌, cond, List, IsTrue, inl, inr}
-use Rattle.std.specs.Prelude.{slice_index_or, IsOk, Result, Ok, Err}
-use Rattle.vdb_coord.specs.Blocks.{block_number, offset}
-use Rattle.vdb_coord.specs.Space.{coord_eq, everywhere, is_inside}
-use Rattle.vdb_coord.specs.declared.Bits.{Bits}
-use Rattle.vdb_coord.specs.declared.Coord.{Coord}
-use Rattle.vdb_coord.specs.declared.Level.TheVariants.{Leaf}
-use Rattle.vdb_coord.proofs.Positions.{entries_is, offset_below}
-use Rattle.vdb_mask.specs.Mask.{is_on}
-use Rattle.vdb_node.specs.Leaf.{IsConstantLeaf, Leaf as LeafOf}
-use Rattle.vdb_node.specs.Nodes.{entry_count}
-use Rattle.vdb_value.specs.declared.Cell.{Cell}
-use Rattle.vdb_tree.specs.Field.{Field, field, new, off, unite}
-use Rattle.vdb_tree.specs.Leaves.{IsLeafAround, with_leaf, with_states_of}
+use Rattle.vdb_morph.proofs.Common.{◌≡◌, ◌≢◌, ◌∙◌, sym, refl, ap, ◌<◌, ℕ, Bool, true, false, ◌&&◌, ◌||◌, cond, List, IsTrue, inl, inr, slice_index_or, Result, Ok, Err, block_number, offset, coord_eq, everywhere, is_inside, Bits, Coord, Leaf, entries_is, offset_below, is_on, IsConstantLeaf, entry_count, Cell, Field, field, off, unite, IsLeafAround, with_leaf, TreeRefusal, cell_inside, same_cells, coord_cases, like_coords, unlike_coords, is_marked, topology, with_active}
+use Rattle.std.specs.Prelude.{IsOk}
+use Rattle.vdb_node.specs.Leaf.{Leaf as LeafOf}
+use Rattle.vdb_tree.specs.Field.{new}
+use Rattle.vdb_tree.specs.Leaves.{with_states_of}
 use Rattle.vdb_tree.specs.Outcome.{ChangesIfOk}
-use Rattle.vdb_tree.specs.declared.refusal.TreeRefusal.{TreeRefusal}
-use Rattle.vdb_tree.proofs.Fields.{cell_inside, same_cells}
-use Rattle.vdb_tree.proofs.Levels.{coord_cases, like_coords, unlike_coords}
-use Rattle.vdb_morph.specs.internal.Iterating.{is_marked, topology, with_active}
 
 -- a field's states, joined to an empty field
 pub united_new : {V : Type 0} (f : Field V) → unite (new false) f ≡ topology f

@@ -1,12 +1,6 @@
 -- Tests of the neighbours of a coordinate, which all lie within the range.
-use Rattle.std.proofs.Common.{◌≡◌, refl, ◌∙◌, Bool, true, false, ◌||◌, inl, inr, List, [], ◌∷◌}
-use Rattle.std.specs.List.{AllByRecursion, cons_option, filter_map, list_all, list_any}
-use Rattle.std.specs.Prelude.{◌⊎◌, Some, None, if◌then◌else◌}
-use Rattle.vdb_coord.specs.Faces.{faces, neighbour, neighbours, toward}
-use Rattle.vdb_coord.specs.Space.{everywhere, is_inside}
-use Rattle.vdb_coord.specs.declared.Coord.{Coord}
-use Rattle.vdb_coord.specs.declared.face.Face.{Face}
-use Rattle.vdb_tree.proofs.Rooted.{or_cases, or_first, or_second}
+use Rattle.vdb_morph.proofs.Common.{◌≡◌, refl, ◌∙◌, Bool, true, false, ◌||◌, inl, inr, List, [], ◌∷◌, cons_option, filter_map, list_all, list_any, ◌⊎◌, Some, None, if◌then◌else◌, faces, neighbour, neighbours, toward, everywhere, is_inside, Coord, Face, or_cases, or_first, or_second}
+use Rattle.std.specs.List.{AllByRecursion}
 
 -- ---- any list
 

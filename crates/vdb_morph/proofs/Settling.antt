@@ -1,24 +1,13 @@
 -- A box of active voxels in an iteration of erosion, face by face.
-use Rattle.std.proofs.Common.{◌≡◌, ◌⊎◌, inl, inr, refl, ap, subst, sym, ◌∙◌, ℕ, ◌+◌, ◌<◌, ◌≤◌, ℤ, pos, ◌+ℤ◌, ◌-ℤ◌, Bool, true, false, not, cond, ◌&&◌, List, [], ◌∷◌, length, arith, IsTrue}
-use Rattle.std.specs.List.{count_by, filter_map, list_all}
-use Rattle.std.specs.Prelude.{get_or}
+use Rattle.vdb_morph.proofs.Common.{◌≡◌, ◌⊎◌, inl, inr, refl, ap, subst, sym, ◌∙◌, ℕ, ◌+◌, ◌<◌, ◌≤◌, ℤ, pos, ◌+ℤ◌, ◌-ℤ◌, Bool, true, false, not, cond, ◌&&◌, List, [], ◌∷◌, length, arith, IsTrue, filter_map, list_all, get_or, ints, faces, neighbour, toward, Box, coord_eq, everywhere, is_inside, Coord, Face, MinusX, PlusX, MinusY, PlusY, MinusZ, PlusZ, and_true, coord_exact, Field, bool_cases, or_cases, is_behind, opposite, Erodes, IsEither, IsEroded}
+use Rattle.std.specs.List.{count_by}
 use Rattle.std.specs.Set.{is_member}
-use Rattle.std.proofs.lemmas.Int.{ints}
 use Rattle.std.proofs.lemmas.List.Sums.{count_by-le-length, sum_by-cons}
-use Rattle.vdb_coord.specs.Faces.{faces, neighbour, toward}
-use Rattle.vdb_coord.specs.Space.{Box, coord_eq, coordinates, everywhere, is_inside, volume}
-use Rattle.vdb_coord.specs.declared.Coord.{Coord}
-use Rattle.vdb_coord.specs.declared.face.Face.{Face}
-use Rattle.vdb_coord.specs.declared.face.Face.TheVariants.{MinusX, PlusX, MinusY, PlusY, MinusZ, PlusZ}
-use Rattle.vdb_coord.proofs.Boxes.{and_true}
-use Rattle.vdb_coord.proofs.Members.{coord_exact, member_coordinates}
+use Rattle.vdb_coord.specs.Space.{coordinates, volume}
+use Rattle.vdb_coord.proofs.Members.{member_coordinates}
 use Rattle.vdb_coord.proofs.Volume.{length_coordinates}
 use Rattle.vdb_tree.specs.ConstantBlocks.{count}
-use Rattle.vdb_tree.specs.Field.{Field}
-use Rattle.vdb_tree.proofs.Levels.{bool_cases}
-use Rattle.vdb_tree.proofs.Rooted.{or_cases}
-use Rattle.vdb_morph.specs.internal.Behind.{is_behind, opposite}
-use Rattle.vdb_morph.specs.internal.Eroding.{Erodes, IsEither, IsEroded, IsSettled}
+use Rattle.vdb_morph.specs.internal.Eroding.{IsSettled}
 use Rattle.vdb_morph.proofs.Eroding.{on_eroded, still_eroded}
 
 -- ---- a box that has as many active voxels as voxels

@@ -1,21 +1,6 @@
 -- The voxels around a box that it activates, face after face.
-use Rattle.std.proofs.Common.{◌≡◌, ◌∙◌, sym, refl, ap, length, true, false, Bool, not, ◌&&◌, ◌||◌, cond, List, [], ◌∷◌, IsTrue, Option, Some, None, if◌then◌else◌}
-use Rattle.std.specs.List.{cons_option, filter_map, list_any}
-use Rattle.vdb_coord.specs.Boxes.{is_bounds}
-use Rattle.vdb_coord.specs.Faces.{faces, neighbour, neighbours, toward}
-use Rattle.vdb_coord.specs.Space.{Box, everywhere, is_box, is_inside, is_within}
-use Rattle.vdb_coord.specs.declared.Coord.{Coord}
-use Rattle.vdb_coord.specs.declared.face.Face.{Face}
-use Rattle.vdb_coord.specs.declared.face.Face.TheVariants.{MinusX, PlusX, MinusY, PlusY, MinusZ, PlusZ}
-use Rattle.vdb_coord.proofs.Boxes.{both, not_true}
-use Rattle.vdb_coord.proofs.Meeting.{within_each}
-use Rattle.vdb_value.specs.declared.Cell.{Cell}
-use Rattle.vdb_tree.specs.Field.{Field, field, fill}
-use Rattle.vdb_tree.proofs.Fields.{cell_inside, same_cells}
-use Rattle.vdb_morph.specs.internal.Behind.{is_behind, is_behind_any}
-use Rattle.vdb_morph.specs.internal.Iterating.{spread, with_active}
+use Rattle.vdb_morph.proofs.Common.{◌≡◌, ◌∙◌, sym, refl, ap, true, false, Bool, not, ◌&&◌, ◌||◌, cond, List, [], ◌∷◌, IsTrue, Option, Some, None, if◌then◌else◌, cons_option, filter_map, list_any, is_bounds, faces, neighbour, neighbours, toward, Box, everywhere, is_box, is_inside, is_within, Coord, Face, MinusX, PlusX, MinusY, PlusY, MinusZ, PlusZ, both, not_true, within_each, Cell, Field, field, fill, cell_inside, same_cells, is_behind, is_behind_any, spread, with_active}
 use Rattle.vdb_morph.proofs.Layers.{apart}
-use Rattle.vdb_morph.proofs.Marks.{kept_cell}
 
 -- ---- a face after others
 
@@ -34,14 +19,6 @@ one_more false o r v e = refl
 module _ (background : Bool) (cells : Coord → Cell Bool) (b : Box) where
   abbrev f : Field Bool
   f = field background cells
-
-  none : (fs : List Face) → length fs ≡ 0 → (q : Coord) → is_behind_any fs b q ≡ false
-  none [] e q = refl
-  none (face ∷ fs) e q = cc
-
-  -- no face
-  pub behind_none : (fs : List Face) → length fs ≡ 0 → f ≡ with_active (is_behind_any fs b) f
-  behind_none fs e = same_cells background cells _ (λ q inside. sym (cell_inside background cells q inside) ∙ kept_cell (f.cell q) (is_behind_any fs b q) (none fs e q))
 
   module _ (face : Face) (rest : List Face) where
     abbrev others : Coord → Cell Bool

@@ -1,32 +1,13 @@
 -- Dilation part by part: the states so far, and what each part of a tree adds to them.
-use Rattle.std.proofs.Common.{◌≡◌, refl, sym, ap, subst, ◌∙◌, Bool, true, false, not, ◌&&◌, ◌||◌, inl, inr, List}
-use Rattle.std.specs.List.{list_any}
+use Rattle.vdb_morph.proofs.Common.{◌≡◌, refl, sym, ap, subst, ◌∙◌, Bool, true, false, not, ◌&&◌, ◌||◌, inl, inr, List, list_any, Option, Some, None, block_around, block_number, offset, neighbours, Box, everywhere, is_inside, Bits, Coord, Leaf, not_before_min, and_true, both, box_from_inside, same_truth, coord_exact, number_in_block, is_on, Cell, Field, dilate, field, Layout, cell_at, field_of, IsSkipped, Passes, TreeWalk, YieldsBox, is_left, Skip, Inactive, same_cells, bool_cases, like_coords, or_cases, or_first, or_second, is_around, is_marked, spread, topology}
 use Rattle.std.specs.Ordering.{is_lt}
-use Rattle.std.specs.Prelude.{Option, Some, None}
-use Rattle.vdb_coord.specs.Blocks.{block_around, block_cmp, block_number, offset}
-use Rattle.vdb_coord.specs.Faces.{neighbours}
-use Rattle.vdb_coord.specs.Space.{Box, everywhere, is_inside}
-use Rattle.vdb_coord.specs.declared.Bits.{Bits}
-use Rattle.vdb_coord.specs.declared.Coord.{Coord}
-use Rattle.vdb_coord.specs.declared.Level.TheVariants.{Leaf}
-use Rattle.vdb_coord.proofs.BlockOrder.{not_before_min}
-use Rattle.vdb_coord.proofs.Boxes.{and_true, both, box_from_inside, same_truth}
-use Rattle.vdb_coord.proofs.Members.{coord_exact}
-use Rattle.vdb_coord.proofs.Nesting.{inside_numbered, number_in_block}
-use Rattle.vdb_mask.specs.Mask.{is_on}
-use Rattle.vdb_value.specs.declared.Cell.{Cell}
-use Rattle.vdb_tree.specs.Field.{Field, dilate, field}
-use Rattle.vdb_tree.specs.Layout.{Layout, cell_at, field_of}
-use Rattle.vdb_tree.specs.Parts.{IsSkipped, OnLeaf, OnTile, Passes, TreeWalk, YieldsBox, is_left}
+use Rattle.vdb_coord.specs.Blocks.{block_cmp}
+use Rattle.vdb_coord.proofs.Nesting.{inside_numbered}
+use Rattle.vdb_tree.specs.Parts.{OnLeaf, OnTile}
 use Rattle.vdb_tree.specs.declared.queries.parts.Content.{Content}
 use Rattle.vdb_tree.specs.declared.queries.parts.Content.TheVariants.{Leaf as PartLeaf, Tile}
-use Rattle.vdb_tree.specs.declared.queries.parts.Skip.{Skip}
-use Rattle.vdb_tree.specs.declared.queries.parts.Skip.TheVariants.{Inactive}
-use Rattle.vdb_tree.proofs.Fields.{same_cells}
-use Rattle.vdb_tree.proofs.Levels.{bool_cases, like_coords}
-use Rattle.vdb_tree.proofs.Rooted.{not_from, or_cases, or_first, or_second, was_false}
+use Rattle.vdb_tree.proofs.Rooted.{not_from, was_false}
 use Rattle.vdb_walk.proofs.Surrounds.{min_inside}
-use Rattle.vdb_morph.specs.internal.Iterating.{is_around, is_marked, spread, topology}
 use Rattle.vdb_morph.proofs.Neighbours.{InRange, any_near, either_near, none_near, some_near}
 use Rattle.vdb_morph.proofs.IterationLaws.{cut_again, dilated_on, on, topology_on, topology_value}
 

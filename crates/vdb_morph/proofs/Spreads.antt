@@ -1,23 +1,6 @@
 -- What a leaf extent makes active around it, face by face and voxel by voxel.
-use Rattle.std.proofs.Common.{◌≡◌, ◌≢◌, refl, sym, ap, ◌∙◌, inl, inr, ◌⊎◌, ℕ, Bool, false, ◌&&◌, ◌||◌, List, IsTrue}
-use Rattle.std.specs.List.{list_any}
-use Rattle.std.proofs.Math.Bool.{or-false}
+use Rattle.vdb_morph.proofs.Common.{◌≡◌, ◌≢◌, refl, sym, ap, ◌∙◌, inl, inr, ◌⊎◌, ℕ, Bool, false, ◌&&◌, ◌||◌, List, IsTrue, list_any, or-false, block_number, block_numbers, offset, AreBits, faces, toward, coord_eq, everywhere, is_inside, Bits, Coord, Leaf, Face, block_in_range, number_in_range, is_on, Field, coord_cases, like_coords, unlike_coords, opposite, state_beside, is_over, is_around, is_marked, spread, with_active}
 use Rattle.std.proofs.lemmas.Bool.{both_ways, and_left, and_right}
-use Rattle.vdb_coord.specs.Blocks.{block_number, block_numbers, offset}
-use Rattle.vdb_coord.specs.Entries.{AreBits}
-use Rattle.vdb_coord.specs.Faces.{faces, toward}
-use Rattle.vdb_coord.specs.Space.{coord_eq, everywhere, is_inside}
-use Rattle.vdb_coord.specs.declared.Bits.{Bits}
-use Rattle.vdb_coord.specs.declared.Coord.{Coord}
-use Rattle.vdb_coord.specs.declared.Level.TheVariants.{Leaf}
-use Rattle.vdb_coord.specs.declared.face.Face.{Face}
-use Rattle.vdb_coord.proofs.InRange.{block_in_range, number_in_range}
-use Rattle.vdb_mask.specs.Mask.{is_on}
-use Rattle.vdb_tree.specs.Field.{Field}
-use Rattle.vdb_tree.proofs.Levels.{coord_cases, like_coords, unlike_coords}
-use Rattle.vdb_morph.specs.internal.Behind.{opposite, state_beside}
-use Rattle.vdb_morph.specs.internal.Spreading.{is_over}
-use Rattle.vdb_morph.specs.internal.Iterating.{is_around, is_marked, spread, with_active}
 use Rattle.vdb_morph.proofs.Activating.{active_same, active_twice, spread_is}
 use Rattle.vdb_morph.proofs.Crossings.{back, crosses, forth, toward_apart}
 

@@ -1,14 +1,10 @@
 -- What an internal node shows of its masks and its rows.
-use Rattle.std.proofs.Common.{◌≡◌, ◌≢◌, ◌<◌, ℕ, Bool, true, false, List, get_or, ap, sym, ◌∙◌, refl, inl, inr, arith}
-use Rattle.std.specs.Prelude.{◌↔◌, ◌||◌, Option, Some, None}
-use Rattle.std.proofs.lemmas.Bool.{cases_Bool, cases_lt}
-use Rattle.vdb_mask.specs.Mask.{is_on, IsFirstOn, IsNext}
-use Rattle.vdb_node.specs.Entries.{entry_of, HasChild, IsConstant, IsFirstWithout, IsInactiveTile, IsNextChild, IsTileOf, SetsEntry}
-use Rattle.vdb_node.specs.Nodes.{listed}
+use Rattle.vdb_node.proofs.Common.{◌≡◌, ◌≢◌, ◌<◌, ℕ, Bool, true, false, List, get_or, ap, sym, ◌∙◌, refl, inl, inr, arith, ◌↔◌, ◌||◌, Option, Some, None, cases_Bool, cases_lt, is_on, entry_of, listed, Child, Cell}
+use Rattle.vdb_mask.specs.Mask.{IsFirstOn, IsNext}
+use Rattle.vdb_node.specs.Entries.{HasChild, IsConstant, IsFirstWithout, IsInactiveTile, IsNextChild, IsTileOf, SetsEntry}
 use Rattle.vdb_node.specs.declared.Entry.{Entry}
-use Rattle.vdb_node.specs.declared.Entry.TheVariants.{Child, Tile}
+use Rattle.vdb_node.specs.declared.Entry.TheVariants.{Tile}
 use Rattle.vdb_node.proofs.Listed.{get_or-listed, get_or-listed_past}
-use Rattle.vdb_value.specs.declared.Cell.{Cell}
 
 -- one entry changes
 pub SetsEntry-listed : {A : Type 0} (old new : ℕ → A) (n i : ℕ) (x : A) → i < n → new i ≡ x → ((j : ℕ) → j ≢ i → new j ≡ old j)

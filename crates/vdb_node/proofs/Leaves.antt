@@ -1,14 +1,9 @@
 -- What a leaf shows of its row and its mask.
-use Rattle.std.proofs.Common.{◌≡◌, ◌≢◌, ◌<◌, ◌≤◌, ℕ, Bool, true, List, ap, sym, ◌∙◌, refl, inl, inr, arith}
-use Rattle.std.specs.Prelude.{◌↔◌, ◌||◌, if◌then◌else◌, Option, Some, None}
-use Rattle.std.proofs.Math.Bool.{or-false, or-true}
-use Rattle.std.proofs.lemmas.Bool.{cases_Bool, cases_lt}
-use Rattle.vdb_mask.specs.Mask.{is_on}
+use Rattle.vdb_node.proofs.Common.{◌≡◌, ◌≢◌, ◌<◌, ◌≤◌, ℕ, Bool, true, List, ap, sym, ◌∙◌, refl, inl, inr, arith, ◌↔◌, ◌||◌, if◌then◌else◌, Option, Some, None, or-false, cases_Bool, cases_lt, is_on, cell_in, listed, Cell}
+use Rattle.std.proofs.Math.Bool.{or-true}
 use Rattle.vdb_node.specs.Blends.{AreBlended, LacksBlend}
-use Rattle.vdb_node.specs.Leaf.{Leaf, cell_in, FillsRun, IsConstantLeaf, SetsVoxel}
-use Rattle.vdb_node.specs.Nodes.{listed}
+use Rattle.vdb_node.specs.Leaf.{Leaf, FillsRun, IsConstantLeaf, SetsVoxel}
 use Rattle.vdb_node.proofs.Listed.{get_or-listed, get_or-listed_past, listed_same}
-use Rattle.vdb_value.specs.declared.Cell.{Cell}
 
 -- a cell of these two parts
 abbrev pub cell_of : {V : Type 0} → V → Bool → Cell V

@@ -1,14 +1,10 @@
 -- The bits of shifted words, and of the words whose bits are those beside.
-use Rattle.std.proofs.Common.{◌≡◌, ◌+◌, ◌-◌, ◌*◌, ◌/◌, ◌%◌, ◌^◌, ◌<◌, ◌≤◌, ℕ, false, refl, sym, ap, ◌∙◌, inl, inr, arith}
-use Rattle.std.specs.Prelude.{◌==◌, not, bit_and, bit_or}
-use Rattle.std.specs.Int.{bit_at}
-use Rattle.std.proofs.lemmas.Bool.{agree_below_at, cases_lt, ne_eqb}
+use Rattle.vdb_node.proofs.Common.{◌≡◌, ◌+◌, ◌-◌, ◌*◌, ◌/◌, ◌%◌, ◌^◌, ◌<◌, ◌≤◌, ℕ, false, refl, sym, ap, ◌∙◌, inl, inr, arith, ◌==◌, not, bit_and, bit_or, bit_at, cases_lt, or-false, shr-shr, bit_at_above, bit_at_cat_high, has_bit, has_bit-and, has_bit-or}
+use Rattle.std.proofs.lemmas.Bool.{agree_below_at, ne_eqb}
 use Rattle.std.proofs.lemmas.Bool.Decides.{eqb_tells}
-use Rattle.std.proofs.Math.Bool.{and-false, and-true, or-false}
-use Rattle.std.proofs.lemmas.Nat.{div-add-mod', shr-shr}
-use Rattle.std.proofs.lemmas.Nat.Bits.{bit_at_above, bit_at_cat_high, bit_at_cat_low, bit_at-zero}
-use Rattle.vdb_mask.specs.Mask.{has_bit}
-use Rattle.vdb_mask.proofs.WordBits.{has_bit-and, has_bit-or}
+use Rattle.std.proofs.Math.Bool.{and-false, and-true}
+use Rattle.std.proofs.lemmas.Nat.{div-add-mod'}
+use Rattle.std.proofs.lemmas.Nat.Bits.{bit_at_cat_low, bit_at-zero}
 use Rattle.vdb_node.specs.Beside.{bit_after, bit_before}
 
 -- a number wrapped to w bits keeps the lowest w

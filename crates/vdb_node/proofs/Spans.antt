@@ -101,14 +101,6 @@ projects_through on n first second both union word fits same outer inner =
 
 -- ---- words united
 
--- the word 0 stands for nothing
-pub projects_none : (on : ℕ → Bool) (coordinate : ℕ → ℕ) → Projects on 0 coordinate 0
-projects_none on coordinate =
-    record {
-      each = λ i h. absurd (omega (arith, h));
-      reached = λ c yes. absurd (both_ways (has_bit 0 c) (has_bit-zero c) yes);
-    }
-
 -- more indices, whose bits are those of another word
 pub projects_more : (on : ℕ → Bool) (n m : ℕ) (coordinate : ℕ → ℕ) (word more : ℕ) → n ≤ m → Projects on n coordinate word
     → ((i : ℕ) → n ≤ i → i < m → on i ≡ true → has_bit more (coordinate i) ≡ true) → ((c : ℕ) → has_bit more c ≡ true → Reaches on m coordinate c)

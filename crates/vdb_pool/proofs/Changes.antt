@@ -1,16 +1,7 @@
 -- How each change of a slot keeps what holds of a pool's fields.
-use Rattle.std.proofs.Common.{◌≡◌, ℕ, suc, ◌+◌, ◌-◌, ◌<◌, List, [], ◌∷◌, ◌++◌, length, get_or, set, map, Option, Some, None, is_some, count_by, cond, slice_get, refl, sym, ap, subst, ◌∙◌, arith, length-set, length-append}
-use Rattle.std.proofs.lemmas.List.{map-set, map_push, length-map, get_or-map}
+use Rattle.vdb_pool.proofs.Common.{◌≡◌, ℕ, suc, ◌+◌, ◌-◌, ◌<◌, List, [], ◌∷◌, ◌++◌, length, get_or, set, map, Option, Some, None, slice_get, refl, sym, ap, subst, ◌∙◌, arith, length-set, length-append, map-set, map_push, length-map, get_or-map, slice_get_within, get_or_from_slice_get, Ptr, node_of, IsAmong, linked, IsStack, AreListed, IsSound, Chunk, Slot, Vacant, Held}
+use Rattle.std.proofs.Common.{is_some, count_by, cond}
 use Rattle.std.proofs.lemmas.List.Sums.{sum_by-set, sum_by_push}
-use Rattle.std.proofs.lemmas.Option.{slice_get_within, get_or_from_slice_get}
-use denote.RawPtr.{Ptr}
-use Rattle.vdb_pool.specs.internal.Slot.{node_of}
-use Rattle.vdb_pool.specs.Contents.{IsAmong}
-use Rattle.vdb_pool.specs.internal.Stack.{linked, IsStack, AreListed}
-use Rattle.vdb_pool.specs.internal.Pool.{IsSound}
-use Rattle.vdb_pool.specs.declared.chunk.Chunk.{Chunk}
-use Rattle.vdb_pool.specs.declared.slot.Slot.{Slot}
-use Rattle.vdb_pool.specs.declared.slot.Slot.TheVariants.{Vacant, Held}
 use Rattle.vdb_pool.proofs.Links.{get_set_same, get_pushed_last, kept, pushed, linked_top, on_stack, off_held, top_of, listed_held, listed_vacant, listed_refilled, listed_pushed, listed_pushed_vacant}
 
 module _ {T : Type 0} where

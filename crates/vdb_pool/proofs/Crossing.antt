@@ -1,18 +1,11 @@
 -- The slots of a pool may cross threads as its nodes and its allocator may.
-use Rattle.std.specs.Prelude.{ℕ, List, [], ◌∷◌}
-use mir.Syntax.{Ty, ty_array}
+use Rattle.vdb_pool.proofs.Common.{ℕ, List, [], ◌∷◌, Ty, ty_array, ftrue, RattleType, lone, Ptr, block_ptr, null_ptr, room_for, in_block, shape, IsSend, IsSync, Ghosts, storage_owns, storage_lends, block_says}
 use mir.Raw.{raw}
-use base.Fml.{ftrue}
 use base.Shift.{Keyless}
-use denote.RattleType.{RattleType}
-use denote.Memory.{lone}
-use denote.RawPtr.{Ptr, block_ptr, null_ptr, room_for, in_block}
 use denote.Struct.Struct.{exits_of}
-use denote.Struct.Owning.{shape, fields, to}
-use denote.Param.Send.{IsSend, IsSync, Common, AllSend, owning_send, struct_send, struct_sync, sendable}
-use Rattle.core.specs.declared.alloc.Allocator.{Ghosts}
+use denote.Struct.Owning.{fields, to}
+use denote.Param.Send.{Common, AllSend, owning_send, struct_send, struct_sync, sendable}
 use Rattle.std_alloc.proofs.SendSync.{FreesAnywhere, lies, quiet, seen}
-use Rattle.vdb_pool.specs.internal.Ownership.{storage_owns, storage_lends, block_says}
 use Rattle.vdb_pool.specs.contracts.storage.Block as Block
 use Rattle.vdb_pool.specs.contracts.storage.Storage as Storage
 

@@ -1,3 +1,4 @@
+mod Common
 pub mod Sharing
 pub mod Walks
 pub mod Places
@@ -6,6 +7,5 @@ pub mod Links
 pub mod Changes
 pub mod Orderly
 pub mod Inserted
-pub mod Growth
 pub mod Lives
 pub mod Crossing

@@ -1,10 +1,8 @@
 -- The stack of vacant slots: what a write to a slot does to the links.
-use Rattle.std.proofs.Common.{◌≡◌, ◌≢◌, ◌⊎◌, inl, inr, ℕ, zero, suc, ◌<◌, List, [], ◌∷◌, ◌++◌, length, get_or, set, map, Option, Some, None, IsSome, slice_get, refl, sym, ap, subst, ◌∙◌, arith, true≢false}
-use Rattle.vdb_pool.specs.internal.Slot.{node_of}
-use Rattle.vdb_pool.specs.Contents.{IsAmong, AreDistinct}
-use Rattle.vdb_pool.specs.internal.Stack.{link_of, linked, IsStack, AreListed}
-use Rattle.vdb_pool.specs.declared.slot.Slot.{Slot}
-use Rattle.vdb_pool.specs.declared.slot.Slot.TheVariants.{Vacant, Held}
+use Rattle.vdb_pool.proofs.Common.{◌≡◌, ◌≢◌, inl, inr, ℕ, zero, suc, ◌<◌, List, [], ◌∷◌, ◌++◌, length, get_or, set, map, Option, Some, None, IsSome, slice_get, refl, sym, ap, subst, ◌∙◌, arith, true≢false, node_of, IsAmong, linked, IsStack, AreListed, Slot, Vacant, Held}
+use Rattle.std.proofs.Common.{◌⊎◌}
+use Rattle.vdb_pool.specs.Contents.{AreDistinct}
+use Rattle.vdb_pool.specs.internal.Stack.{link_of}
 
 module _ {X : Type 0} where
   -- what a write does elsewhere, and at its own index

@@ -1,15 +1,5 @@
 -- The vacant slots of a pool, as its contents list them.
-use Rattle.std.proofs.Common.{◌≡◌, ℕ, ◌-◌, ◌<◌, List, length, get_or, map, Option, Some, None, slice_get, ap, ◌∙◌, arith}
-use Rattle.std.proofs.lemmas.List.{length-map, get_or-map}
-use Rattle.std.proofs.lemmas.Option.{slice_get_within, get_or_from_slice_get}
-use denote.RawPtr.{Ptr}
-use Rattle.vdb_pool.specs.internal.Slot.{node_of}
-use Rattle.vdb_pool.specs.Contents.{IsOrderly}
-use Rattle.vdb_pool.specs.internal.Stack.{linked}
-use Rattle.vdb_pool.specs.internal.Pool.{IsSound}
-use Rattle.vdb_pool.specs.declared.chunk.Chunk.{Chunk}
-use Rattle.vdb_pool.specs.declared.slot.Slot.{Slot}
-use Rattle.vdb_pool.specs.declared.slot.Slot.TheVariants.{Vacant}
+use Rattle.vdb_pool.proofs.Common.{◌≡◌, ℕ, ◌-◌, ◌<◌, List, length, get_or, map, Option, Some, None, slice_get, ap, ◌∙◌, arith, length-map, get_or-map, slice_get_within, get_or_from_slice_get, Ptr, node_of, IsOrderly, linked, IsSound, Chunk, Slot, Vacant}
 use Rattle.vdb_pool.proofs.Links.{vacant_at, on_stack, linked_once}
 
 module _ {T : Type 0} where

@@ -7,23 +7,11 @@
 --     last_out, free_in        the last item's place is taken out, and put back empty
 --     joined, cut              free places are added at the end, and cut off there
 --     of_room, to_room         room for an array is a row of free places
-use Rattle.std.proofs.Common.{◌≡◌, ℕ, zero, suc, ◌+◌, ◌-◌, ◌<◌, List, [], ◌∷◌, ◌++◌, length, take, drop, get_or, set, refl, ap, arith}
-use Rattle.std.specs.Mem.{type_size}
-use seplogic.Ra.Ura.{Ura}
-use base.Fraction.{full_share}
-use base.Logic.{ent, sep, via, id⊢, never_e, fst∗, snd∗}
-use base.Fml.{Lft, Fml, ftrue, fsep, froom}
+use Rattle.vdb_pool.proofs.Common.{◌≡◌, ℕ, zero, suc, ◌+◌, ◌-◌, ◌<◌, List, [], ◌∷◌, ◌++◌, length, take, get_or, set, refl, ap, arith, type_size, Ura, full_share, ent, sep, id⊢, Lft, Fml, ftrue, fsep, froom, Ty, ty_array, Logic, sem, ‵, ◌⊛◌, ◌$◌, ◌∵◌, !, qed, by, move, keep, use1, use2, split, fsplit, fjoin, done, RattleType, lone, Ptr, block_ptr, null_ptr, lies_at, room_for, nothing, lent_at, row_from, storage_owns, storage_lends}
+use Rattle.std.proofs.Common.{drop}
+use base.Logic.{via, never_e, fst∗, snd∗}
 use mir.Raw.{raw as bare}
-use mir.Syntax.{Ty, ty_array}
-use types.Logic.{Logic, sem}
-use types.Kit.{‵, ◌⊛◌, ◌$◌, ◌∵◌, !, qed, by, move, keep, drop as skip, use1, use2, split, frame, fsplit, fjoin, done}
-use denote.RattleType.{RattleType}
-use denote.Memory.{lone}
-use denote.RawPtr.{Ptr, block_ptr, null_ptr, lies_at, room_for}
-use denote.Steps.{nothing}
-use denote.Struct.Lending.{lent_at}
-use Rattle.vdb_pool.specs.internal.Rows.{row_from}
-use Rattle.vdb_pool.specs.internal.Ownership.{storage_owns, storage_lends}
+use types.Kit.{drop as skip, frame}
 
 module _ {X : Type 0} where
   pub some_item : (xs : List X) (i : ℕ) → i < length xs → X

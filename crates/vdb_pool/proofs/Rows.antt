@@ -1,17 +1,11 @@
 -- The addresses of the slots of the chunks.
-use Rattle.std.proofs.Common.{◌≡◌, ℕ, zero, suc, ◌+◌, ◌-◌, ◌*◌, ◌/◌, ◌%◌, ◌^◌, ◌<◌, ◌≤◌, List, [], ◌∷◌, ◌++◌, length, get_or, refl, sym, ap, subst, ◌∙◌, arith, length-append, append-nil, append_assoc, Option}
-use native.Mathlib.Nat.{zero-mul, suc-mul}
-use Rattle.std.proofs.Math.Nat.{div-lt_iff_lt-mul, lt_of_mul-lt-mul_right, mul-le-mul_right, mul_comm, mul_assoc, add-mul, mod-lt}
-use Rattle.std.proofs.lemmas.Nat.{div-add-mod', div-mul-add}
+use Rattle.vdb_pool.proofs.Common.{◌≡◌, ℕ, zero, suc, ◌+◌, ◌-◌, ◌*◌, ◌/◌, ◌%◌, ◌^◌, ◌<◌, ◌≤◌, List, [], ◌∷◌, ◌++◌, length, get_or, refl, sym, ap, subst, ◌∙◌, arith, length-append, Option, suc-mul, mod-lt, div-add-mod', Ptr, block_ptr, null_ptr, ◌+ₚ◌, row_from, rows_of, AreWhole, IsSound, Slot, Chunk}
+use Rattle.std.proofs.Common.{append-nil, append_assoc}
+use native.Mathlib.Nat.{zero-mul}
+use Rattle.std.proofs.Math.Nat.{div-lt_iff_lt-mul, lt_of_mul-lt-mul_right, mul-le-mul_right, mul_comm, mul_assoc, add-mul}
+use Rattle.std.proofs.lemmas.Nat.{div-mul-add}
 use lib.ListN.{get_or-append}
 use lib.Seq.{get_or-append-add}
-use Rattle.std.proofs.Common.{Global}
-use denote.RawPtr.{Ptr, block_ptr, null_ptr, ◌+ₚ◌}
-use Rattle.vdb_pool.specs.internal.Rows.{row_from}
-use Rattle.vdb_pool.specs.internal.Chunks.{rows_of, AreWhole}
-use Rattle.vdb_pool.specs.internal.Pool.{IsSound}
-use Rattle.vdb_pool.specs.declared.slot.Slot.{Slot}
-use Rattle.vdb_pool.specs.declared.chunk.Chunk.{Chunk}
 
 pub length-row : (s : ℕ) (p : Ptr) (n : ℕ) → length (row_from s p n) ≡ n
 length-row s p zero = refl
@@ -135,6 +129,3 @@ pub one_more_fits : (len most n : ℕ) → len * most ≡ 4294967295 → n * len
 one_more_fits len most n all below =
     let fewer : n < most = lt_of_mul-lt-mul_right len (omega (arith, mul_comm len most, all, below)) in
     omega (arith, suc-mul n len, mul-le-mul_right len fewer, mul_comm len most, all)
-
-pub one_global : (a b : Global) → a ≡ b
-one_global a b = refl

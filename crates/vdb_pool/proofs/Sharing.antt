@@ -1,17 +1,11 @@
 -- A `&` to a storage comes from a `&` to each of its items. Assumes `Logic`.
-use Rattle.std.specs.Prelude.{List, [], ◌∷◌}
-use base.Fraction.{full_share}
-use seplogic.Ra.Ura.{Ura}
-use base.Fml.{Lft, Incl, ftrue, ffalse}
-use types.Logic.{Logic}
-use denote.RattleType.{RattleType, RowLaws}
-use denote.Param.Laws.{Laws}
-use denote.RawPtr.{Ptr, lies_at}
-use denote.Sharing.{ShrLaws, said}
-use denote.SharingLaws.{beside_shr_laws, nothing_shr_laws, said_shr_laws}
+use Rattle.vdb_pool.proofs.Common.{List, [], ◌∷◌, full_share, Ura, Lft, ftrue, Logic, RattleType, Laws, Ptr, lies_at, said, said_shr_laws, lent_at, storage_owns, storage_lends}
+use base.Fml.{Incl, ffalse}
+use denote.RattleType.{RowLaws}
+use denote.Sharing.{ShrLaws}
+use denote.SharingLaws.{beside_shr_laws, nothing_shr_laws}
 use denote.Shares.{Shares-less}
-use denote.Struct.Lending.{Lends, Lends-both, Lends-nothing, Lends-false, Lends-lies, lent_at, lent_at_shr_laws}
-use Rattle.vdb_pool.specs.internal.Ownership.{storage_owns, storage_lends}
+use denote.Struct.Lending.{Lends, Lends-both, Lends-nothing, Lends-false, Lends-lies, lent_at_shr_laws}
 
 -- what such a `&` holds can be copied and shortened
 pub storage_shr_laws : (R : RattleType) → RowLaws R → (ps : List Ptr) (xs : List R.Denot) → ShrLaws (storage_lends R ps xs)

@@ -1,22 +1,13 @@
 -- What the walks of the raw layer share: the rows of its types, and the machine values of an address and of a mark. Assumes `Logic`.
-use Rattle.std.proofs.Common.{◌≡◌, ℕ, zero, suc, List, [], ◌∷◌, ◌++◌, refl, ◌∙◌}
-use seplogic.Ra.Ura.{Ura}
-use mir.Val.{Val, vstruct, vcons, vnil, of_list}
-use base.Logic.{ent, sep, emp}
-use types.Logic.{Logic, sem}
-use types.Kit.{‵, ◌$◌, ◌∵◌, !, qed, move, fjoin, fpack, feq_i, done}
-use denote.RattleType.{RattleType, Valss}
+use Rattle.vdb_pool.proofs.Common.{◌≡◌, ℕ, zero, suc, List, [], ◌∷◌, ◌++◌, refl, ◌∙◌, Ura, Val, vstruct, vcons, vnil, ent, sep, emp, Logic, sem, ‵, ◌$◌, ◌∵◌, !, qed, move, fjoin, fpack, feq_i, done, RattleType, Is, Ptr, ptr_val, plain, nothing, Struct, Tuple, shape, El, R}
+use mir.Val.{of_list}
+use denote.RattleType.{Valss}
 use denote.Builtin.{unit}
-use denote.Laws.{Is}
-use denote.RawPtr.{Ptr, ptr_val}
 use denote.Shadow.{makes_shadow}
-use denote.Signature.{Slot, plain}
-use denote.Steps.{nothing}
+use denote.Signature.{Slot}
 use denote.Struct.Declared as Declared
-use denote.Struct.Struct.{Struct, within}
-use denote.Struct.Tuple.{Tuple, tuple_type}
-use denote.Struct.Owning.{shape}
-use Rattle.core.proofs.mem.Param.{El, R}
+use denote.Struct.Struct.{within}
+use denote.Struct.Tuple.{tuple_type}
 use Rattle.vdb_pool.specs.contracts.storage.Address as address
 use Rattle.vdb_pool.specs.contracts.storage.Storage as storage
 

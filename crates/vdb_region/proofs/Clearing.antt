@@ -1,24 +1,13 @@
 -- Clearing what lies beyond faces, one face after another.
-use Rattle.std.proofs.Common.{◌≡◌, ◌∙◌, sym, refl, ap, length, true, false, Bool, not, ◌&&◌, ◌||◌, cond, List, [], ◌∷◌, ◌≤◌}
-use Rattle.std.specs.List.{list_any}
+use Rattle.vdb_region.proofs.Common.{◌≡◌, ◌∙◌, sym, refl, ap, length, true, false, Bool, not, ◌&&◌, ◌||◌, List, ◌≤◌, list_any, faces, Box, everywhere, is_inside, Bits, Coord, Leaf, Lower, Upper, Face, and_true, Field, clip, fill, off, roots, never, Cell, clear, is_beyond, hull}
+use Rattle.std.proofs.Common.{cond, [], ◌∷◌}
 use Rattle.vdb_coord.specs.Blocks.{block, block_numbers}
-use Rattle.vdb_coord.specs.Faces.{faces}
-use Rattle.vdb_coord.specs.Space.{Box, everywhere, is_inside}
-use Rattle.vdb_coord.specs.declared.Bits.{Bits}
-use Rattle.vdb_coord.specs.declared.Coord.{Coord}
-use Rattle.vdb_coord.specs.declared.Level.TheVariants.{Leaf, Lower, Upper}
-use Rattle.vdb_coord.specs.declared.face.Face.{Face}
-use Rattle.vdb_coord.proofs.Boxes.{and_true}
 use Rattle.vdb_coord.proofs.CountBounds.{count_at_most, member_passing}
-use Rattle.vdb_tree.specs.Field.{Field, clip, field, fill, off}
-use Rattle.vdb_tree.specs.ConstantBlocks.{is_background, root_keys, roots}
-use Rattle.vdb_tree.proofs.Blocks.{never}
+use Rattle.vdb_tree.specs.Field.{field}
+use Rattle.vdb_tree.specs.ConstantBlocks.{is_background, root_keys}
 use Rattle.vdb_tree.proofs.Fields.{cell_inside, same_cells}
 use Rattle.vdb_tree.proofs.Rooted.{not_from, was_false}
 use Rattle.vdb_tree.proofs.Uniform.{uniform_cells, uniform_from}
-use Rattle.vdb_value.specs.declared.Cell.{Cell}
-use Rattle.vdb_region.specs.internal.Beyond.{clear, is_beyond}
-use Rattle.vdb_region.specs.internal.Rings.{hull}
 use Rattle.vdb_region.proofs.Halves.{beyond_all}
 use Rattle.vdb_region.proofs.Hulls.{hull_holds}
 

@@ -1,18 +1,9 @@
 -- The half of all coordinates that lies past a face of a box.
-use Rattle.std.proofs.Common.{◌≡◌, ◌∙◌, sym, refl, ap, true, false, Bool, not, ◌&&◌, ◌||◌, ℤ, pos, negsuc, ◌+ℤ◌, ◌-ℤ◌, ◌≤ℤ◌, int_le, arith, None}
-use Rattle.std.specs.Prelude.{int_lt}
-use Rattle.std.specs.List.{list_any}
+use Rattle.vdb_region.proofs.Common.{◌≡◌, ◌∙◌, sym, refl, ap, true, false, Bool, not, ◌&&◌, ◌||◌, int_le, arith, None, int_lt, list_any, box_of, is_bounds, faces, Box, everywhere, is_between, is_box, is_inside, is_within, Coord, Face, MinusX, PlusX, MinusY, PlusY, MinusZ, PlusZ, both, box_from_inside, three, never, half, is_beyond}
+use Rattle.std.proofs.Common.{ℤ, pos, negsuc, ◌+ℤ◌, ◌-ℤ◌, ◌≤ℤ◌}
 use Rattle.std.proofs.lemmas.Int.{ints}
-use Rattle.vdb_coord.specs.Boxes.{box_of, is_bounds}
-use Rattle.vdb_coord.specs.Faces.{faces}
-use Rattle.vdb_coord.specs.Space.{Box, everywhere, is_between, is_box, is_inside, is_within}
-use Rattle.vdb_coord.specs.declared.Coord.{Coord}
-use Rattle.vdb_coord.specs.declared.face.Face.{Face}
-use Rattle.vdb_coord.specs.declared.face.Face.TheVariants.{MinusX, PlusX, MinusY, PlusY, MinusZ, PlusZ}
-use Rattle.vdb_coord.proofs.Boxes.{both, box_from_inside, box_of_none, not_true, three}
+use Rattle.vdb_coord.proofs.Boxes.{box_of_none, not_true}
 use Rattle.vdb_coord.proofs.Meeting.{le_from_test}
-use Rattle.vdb_tree.proofs.Blocks.{never}
-use Rattle.vdb_region.specs.internal.Beyond.{half, is_beyond}
 
 abbrev low : ℤ
 low = negsuc 2147483647

@@ -1,30 +1,18 @@
 -- The blocks that meet a box, as one box; and the sides of the rings between such boxes.
-use Rattle.std.proofs.Common.{◌≡◌, ◌∙◌, ◌⊎◌, inl, inr, sym, refl, ap, true, Bool, not, ◌&&◌, int_le, IsTrue, ℕ}
-use Rattle.std.specs.Prelude.{int_lt}
-use Rattle.vdb_coord.specs.Blocks.{block_around, block_bits, block_number}
+use Rattle.vdb_region.proofs.Common.{◌≡◌, ◌∙◌, sym, refl, ap, true, Bool, not, ◌&&◌, int_le, ℕ, int_lt, block_around, Box, everywhere, is_between, is_box, is_inside, Bits, Coord, Level, Leaf, Lower, Upper, Face, MinusX, PlusX, MinusY, PlusY, MinusZ, PlusZ, and_true, both, box_from_inside, three, Cell, never, is_beyond, hull, inner, outer}
+use Rattle.std.proofs.Common.{◌⊎◌, inl, inr, IsTrue}
+use Rattle.vdb_coord.specs.Blocks.{block_bits, block_number}
 use Rattle.vdb_coord.specs.Components.{first_of, last_of, number_at}
 use Rattle.vdb_coord.specs.Entries.{AreBits, numbers_over}
-use Rattle.vdb_coord.specs.Space.{Box, everywhere, is_between, is_box, is_inside}
-use Rattle.vdb_coord.specs.declared.Bits.{Bits}
-use Rattle.vdb_coord.specs.declared.Coord.{Coord}
-use Rattle.vdb_coord.specs.declared.Level.{Level}
-use Rattle.vdb_coord.specs.declared.Level.TheVariants.{Leaf, Lower, Upper}
-use Rattle.vdb_coord.specs.declared.face.Face.{Face}
-use Rattle.vdb_coord.specs.declared.face.Face.TheVariants.{MinusX, PlusX, MinusY, PlusY, MinusZ, PlusZ}
-use Rattle.vdb_coord.proofs.Boxes.{and_true, both, box_from_inside, three}
 use Rattle.vdb_coord.proofs.InRange.{block_in_range}
 use Rattle.vdb_coord.proofs.Meeting.{begins_by, common_from_meets, ends_by, meets_block, meets_from_common}
 use Rattle.vdb_coord.proofs.Nesting.{inside_around, lower_from_leaf, number_in_block, upper_from_lower}
 use Rattle.vdb_coord.proofs.Walk.{min_inside}
 use Rattle.vdb_node.specs.declared.Entry.TheVariants.{Tile}
-use Rattle.vdb_value.specs.declared.Cell.{Cell}
 use Rattle.vdb_tree.specs.Layout.{Layout, entry_over, background_cell}
 use Rattle.vdb_tree.specs.SplitBox.{IsCovered, IsSplit}
-use Rattle.vdb_tree.proofs.Blocks.{never}
 use Rattle.vdb_tree.proofs.Covered.{covered_from, covered_inside}
 use Rattle.vdb_tree.proofs.Passes.{entry_by_block}
-use Rattle.vdb_region.specs.internal.Beyond.{is_beyond}
-use Rattle.vdb_region.specs.internal.Rings.{hull, inner, outer}
 use Rattle.vdb_region.specs.declared.rings.Ring.{Ring}
 use Rattle.vdb_region.specs.declared.rings.Ring.TheVariants.{AroundRoots, WithinRoots, WithinLowers, WithinLeaves}
 use Rattle.vdb_region.proofs.Halves.{not_le}

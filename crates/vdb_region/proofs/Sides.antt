@@ -1,16 +1,8 @@
 -- The results of the calls on hulls and sides.
-use Rattle.std.proofs.Common.{◌≡◌, ◌∙◌, sym, refl, ap, true, false, Bool, ◌&&◌, Some, None, Option}
+use Rattle.vdb_region.proofs.Common.{◌≡◌, ◌∙◌, sym, refl, ap, true, false, Bool, ◌&&◌, Some, None, Option, box_of, is_bounds, Box, everywhere, is_box, is_inside, is_within, Bits, Coord, Level, Face, both, half, is_beyond, hull}
 use Rattle.std.specs.Prelude.{IfNone, IfSome}
-use Rattle.vdb_coord.specs.Boxes.{box_of, is_bounds}
-use Rattle.vdb_coord.specs.Space.{Box, everywhere, is_box, is_inside, is_within}
-use Rattle.vdb_coord.specs.declared.Bits.{Bits}
-use Rattle.vdb_coord.specs.declared.Coord.{Coord}
-use Rattle.vdb_coord.specs.declared.Level.{Level}
-use Rattle.vdb_coord.specs.declared.face.Face.{Face}
-use Rattle.vdb_coord.proofs.Boxes.{both, box_of_some}
+use Rattle.vdb_coord.proofs.Boxes.{box_of_some}
 use Rattle.vdb_coord.proofs.Meeting.{within_each}
-use Rattle.vdb_region.specs.internal.Beyond.{half, is_beyond}
-use Rattle.vdb_region.specs.internal.Rings.{hull}
 use Rattle.vdb_region.proofs.Halves.{half_inside, no_half}
 use Rattle.vdb_region.proofs.Hulls.{hull_is_box}
 

@@ -1,19 +1,7 @@
 -- Iterations of dilation and of erosion, before and after each value of a field is mapped.
-use Rattle.std.proofs.Common.{◌≡◌, refl, sym, ap, subst, ◌∙◌, ℕ, zero, suc, ◌<◌, ◌≤◌, Bool, ◌&&◌, ◌||◌, Result, Ok, Err}
-use Rattle.std.specs.List.{list_all, list_any}
-use Rattle.std.proofs.Math.Path.{fun_ext}
+use Rattle.vdb_scene.proofs.Common.{◌≡◌, refl, sym, ap, subst, ◌∙◌, ℕ, zero, suc, ◌<◌, ◌≤◌, Bool, ◌&&◌, ◌||◌, Result, Ok, Err, list_any, fun_ext, Bits, Coord, Cell, roots, Field, as_field_of, dilate, erode, field, iterations, IsOutcome, TreeRefusal, Memory, RootLimit, as_field_of_cell, as_field_of_roots, same_cells, IsGrowth}
+use Rattle.std.specs.List.{list_all}
 use Rattle.vdb_coord.specs.Faces.{neighbours}
-use Rattle.vdb_coord.specs.declared.Bits.{Bits}
-use Rattle.vdb_coord.specs.declared.Coord.{Coord}
-use Rattle.vdb_value.specs.declared.Cell.{Cell}
-use Rattle.vdb_tree.specs.ConstantBlocks.{roots}
-use Rattle.vdb_tree.specs.Field.{Field, as_field_of, dilate, erode, field, iterations}
-use Rattle.vdb_tree.specs.Outcome.{IsOutcome}
-use Rattle.vdb_tree.specs.declared.refusal.TreeRefusal.{TreeRefusal}
-use Rattle.vdb_tree.specs.declared.refusal.TreeRefusal.TheVariants.{Memory, RootLimit}
-use Rattle.vdb_tree.proofs.AsFieldOf.{as_field_of_cell, as_field_of_roots}
-use Rattle.vdb_tree.proofs.Fields.{same_cells}
-use Rattle.vdb_morph.specs.Growth.{IsGrowth}
 
 module _ {V U : Type 0} (make : V → U) where
   -- ---- one iteration

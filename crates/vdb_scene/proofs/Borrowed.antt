@@ -1,20 +1,5 @@
 -- The scene after the grid of a name was borrowed and given back.
-use Rattle.std.proofs.Common.{◌≡◌, refl, sym, ap, ◌∙◌, ℕ, List, Option, Some, None, is_none, Err}
-use Rattle.std.specs.Map.{lookup, set_value}
-use Rattle.std.specs.Option.{option_map}
-use Rattle.vdb_coord.specs.Blocks.{vdb}
-use Rattle.vdb_tree.specs.Field.{Field}
-use Rattle.vdb_tree.specs.Outcome.{IsOutcome}
-use Rattle.vdb_tree.specs.declared.refusal.TreeRefusal.{TreeRefusal}
-use Rattle.vdb_tree.specs.declared.refusal.TreeRefusal.TheVariants.{Memory, RootLimit}
-use Rattle.vdb_scene.specs.Grids.{grid_field, grid_root_limit, grid_of, scene_over}
-use Rattle.vdb_scene.specs.Scalars.{scalar_eq}
-use Rattle.vdb_scene.specs.Scene.{Grid, grid_at, is_named}
-use Rattle.vdb_scene.specs.Metas.{Pairs}
-use Rattle.vdb_scene.specs.Step.{changed, with_pairs}
-use Rattle.vdb_scene.specs.declared.scalar.Scalar.{Scalar}
-use Rattle.vdb_scene.specs.declared.any_grid.AnyGrid.{AnyGrid}
-use Rattle.vdb_scene.specs.declared.grid_entry.GridEntry.{GridEntry}
+use Rattle.vdb_scene.proofs.Common.{◌≡◌, refl, sym, ap, ◌∙◌, ℕ, List, Option, Some, None, is_none, Err, lookup, set_value, option_map, vdb, Field, IsOutcome, TreeRefusal, Memory, RootLimit, grid_field, grid_root_limit, grid_of, scene_over, scalar_eq, Grid, grid_at, is_named, Pairs, changed, with_pairs, Scalar, AnyGrid, GridEntry}
 use Rattle.vdb_scene.proofs.Entries.{lookup-over, set_value-found, set_value-over}
 use Rattle.vdb_scene.proofs.Steps.{grid_found}
 

@@ -1,24 +1,9 @@
 -- Names, errors, answers and scenes of worked examples, found by computing.
-use Rattle.std.proofs.Common.{◌≡◌, refl, ℕ, ℤ, pos, negsuc, ◌+◌, true, false, List, [], ◌∷◌, map, Some, None, codes, inl, take}
-use Rattle.std.specs.List.{range_with_len}
-use Rattle.vdb_coord.specs.Space.{coord}
-use Rattle.vdb_value.specs.declared.Cell.{Cell}
+use Rattle.vdb_scene.proofs.Common.{◌≡◌, refl, ℕ, ℤ, pos, negsuc, ◌+◌, true, false, List, [], ◌∷◌, map, Some, None, codes, inl, take, range_with_len, coord, Cell, is_name, Scene, field_at, new_grid, first_of_all, Refused, Step, after, first_refusal, refusal, takes_memory, tried, Scalar, I32, Command, Corners, Literal, Number, Truth, Near, Far, Point}
 use Rattle.vdb_value.specs.declared.Kind.TheVariants as kinds
-use Rattle.vdb_scene.specs.Names.{is_name}
-use Rattle.vdb_scene.specs.Scene.{Scene, field_at, new_grid}
-use Rattle.vdb_scene.specs.Refusals.{first_of_all}
-use Rattle.vdb_scene.specs.Replies.{Refused}
-use Rattle.vdb_scene.specs.Step.{Step, after, first_refusal, refusal, takes_memory, tried}
 use Rattle.vdb_scene.specs.declared.answer.Refusal.TheVariants as refusals
-use Rattle.vdb_scene.specs.declared.scalar.Scalar.{Scalar}
-use Rattle.vdb_scene.specs.declared.scalar.Scalar.TheVariants.{Bool as truth, I32}
-use Rattle.vdb_scene.specs.declared.command.Command.{Command}
+use Rattle.vdb_scene.specs.declared.scalar.Scalar.TheVariants.{Bool as truth}
 use Rattle.vdb_scene.specs.declared.command.Command.TheVariants as commands
-use Rattle.vdb_scene.specs.declared.command.Corners.{Corners}
-use Rattle.vdb_scene.specs.declared.command.Literal.{Literal}
-use Rattle.vdb_scene.specs.declared.command.Literal.TheVariants.{Number, Truth}
-use Rattle.vdb_scene.specs.declared.command.Num.TheVariants.{Near, Far}
-use Rattle.vdb_scene.specs.declared.command.Point.{Point}
 
 -- ---- names
 

@@ -1,11 +1,5 @@
 -- Changes of a list of entries, before and after their values are mapped.
-use Rattle.std.proofs.Common.{◌≡◌, refl, sym, ap, subst, rules, Bool, true, false, cond, List, [], ◌∷◌, map, Option, Some, IsSome}
-use Rattle.std.specs.Option.{option_map}
-use Rattle.std.specs.declared.cmp.Ordering.{Ordering}
-use Rattle.std.specs.declared.cmp.Ordering.TheVariants.{Less, Equal, Greater}
-use Rattle.std.specs.Map.{lookup, remove_entry, set_value}
-use Rattle.std.specs.BTreeMap.{insert_entry}
-use Rattle.std.specs.Ordering.{match_ordering}
+use Rattle.vdb_scene.proofs.Common.{◌≡◌, refl, sym, ap, subst, rules, Bool, true, false, cond, List, [], ◌∷◌, map, Option, Some, IsSome, option_map, Ordering, Less, Equal, Greater, lookup, remove_entry, set_value, insert_entry, match_ordering}
 
 found : {X Y : Type 0} (make : X → Y) (b : Bool) (x : X) (o : Option X) (p : Option Y) → p ≡ option_map make o → cond b (Some (make x)) p ≡ option_map make (cond b (Some x) o)
 found make true x o p h = refl

@@ -1,32 +1,8 @@
 -- The outcome of filling a box, from facts about the grid and the command.
-use Rattle.std.proofs.Common.{◌≡◌, refl, sym, ap, ◌∙◌, ◌≤◌, ℕ, Bool, true, false, not, ◌&&◌, nat_lt, List, [], ◌∷◌, Option, Some, None, is_none, Ok, Err}
-use Rattle.std.proofs.lemmas.Bool.{le-ltb, lt-ltb}
-use Rattle.std.specs.Map.{lookup}
-use Rattle.vdb_coord.specs.Blocks.{vdb}
-use Rattle.vdb_coord.specs.Space.{Box, is_box}
-use Rattle.vdb_value.specs.declared.Kind.{Kind}
-use Rattle.vdb_tree.specs.Field.{Field, fill}
-use Rattle.vdb_tree.specs.Outcome.{IsOutcome}
-use Rattle.vdb_tree.specs.ConstantBlocks.{roots}
-use Rattle.vdb_tree.specs.declared.refusal.TreeRefusal.{TreeRefusal}
-use Rattle.vdb_tree.specs.declared.refusal.TreeRefusal.TheVariants.{Memory, RootLimit}
-use Rattle.vdb_scene.specs.Doing.{CarriesOut}
-use Rattle.vdb_scene.specs.Grids.{grid_field, grid_root_limit, grid_of, scene_over}
-use Rattle.vdb_scene.specs.Scalars.{has_form, has_value, kind_of, scalar, scalar_eq}
-use Rattle.vdb_scene.specs.Scene.{Grid, Scene, is_named}
+use Rattle.vdb_scene.proofs.Common.{◌≡◌, refl, sym, ap, ◌∙◌, ◌≤◌, ℕ, Bool, true, false, not, ◌&&◌, nat_lt, List, [], ◌∷◌, Option, Some, None, is_none, Ok, Err, le-ltb, lt-ltb, lookup, vdb, Box, is_box, Kind, Field, fill, IsOutcome, roots, TreeRefusal, Memory, RootLimit, CarriesOut, grid_field, grid_root_limit, grid_of, scene_over, has_form, has_value, kind_of, scalar, scalar_eq, Grid, Scene, is_named, are_coords, box_between, first_of_all, no_box, of_tree, other_form, out_of_range, refused_if, after, changed, refusal, GridEntry, Done, Refusal, Command, Corners, Literal, Scalar}
 use Rattle.vdb_scene.specs.Replies as replies
-use Rattle.vdb_scene.specs.Arguments.{are_coords, box_between}
-use Rattle.vdb_scene.specs.Refusals.{first_of_all, no_box, of_tree, other_form, out_of_range, refused_if}
-use Rattle.vdb_scene.specs.Step.{after, changed, refusal}
-use Rattle.vdb_scene.specs.declared.grid_entry.GridEntry.{GridEntry}
-use Rattle.vdb_scene.specs.declared.answer.Answer.TheVariants.{Done}
-use Rattle.vdb_scene.specs.declared.answer.Refusal.{Refusal}
 use Rattle.vdb_scene.specs.declared.answer.Refusal.TheVariants as refusals
-use Rattle.vdb_scene.specs.declared.command.Command.{Command}
 use Rattle.vdb_scene.specs.declared.command.Command.TheVariants as commands
-use Rattle.vdb_scene.specs.declared.command.Corners.{Corners}
-use Rattle.vdb_scene.specs.declared.command.Literal.{Literal}
-use Rattle.vdb_scene.specs.declared.scalar.Scalar.{Scalar}
 use Rattle.vdb_scene.proofs.Borrowed.{found, missing}
 use Rattle.vdb_scene.proofs.Writing.{passed_over}
 use Rattle.vdb_scene.proofs.Steps.{corners_next, grid_found, kind_found, refused, value_first}

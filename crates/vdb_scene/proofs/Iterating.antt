@@ -1,28 +1,8 @@
 -- The outcome of iterations of dilation and of erosion, from facts about the grid and the command.
-use Rattle.std.proofs.Common.{◌≡◌, refl, sym, ap, ◌∙◌, ℕ, Bool, true, false, List, [], ◌∷◌, Some, None, Ok, Err}
-use Rattle.std.proofs.lemmas.Bool.{le-ltb, lt-ltb}
-use Rattle.std.specs.Map.{lookup, set_value}
-use Rattle.vdb_coord.specs.Blocks.{vdb}
-use Rattle.vdb_tree.specs.Field.{Field, dilate, erode, iterations}
-use Rattle.vdb_tree.specs.Outcome.{IsOutcome}
-use Rattle.vdb_tree.specs.declared.refusal.TreeRefusal.{TreeRefusal}
-use Rattle.vdb_tree.specs.declared.refusal.TreeRefusal.TheVariants.{Memory, RootLimit}
-use Rattle.vdb_morph.specs.Growth.{IsGrowth}
-use Rattle.vdb_scene.specs.Doing.{CarriesOut}
-use Rattle.vdb_scene.specs.Grids.{grid_field, grid_root_limit, grid_of, scene_over}
-use Rattle.vdb_scene.specs.Arguments.{count_of, is_iteration_count}
-use Rattle.vdb_scene.specs.Refusals.{beyond_limit, first_of_all, of_tree, refused_if}
+use Rattle.vdb_scene.proofs.Common.{◌≡◌, refl, sym, ap, ◌∙◌, ℕ, Bool, true, false, List, [], ◌∷◌, Some, None, Ok, Err, le-ltb, lt-ltb, lookup, set_value, vdb, Field, dilate, erode, iterations, IsOutcome, TreeRefusal, Memory, RootLimit, IsGrowth, CarriesOut, grid_field, grid_root_limit, grid_of, scene_over, count_of, is_iteration_count, beyond_limit, first_of_all, of_tree, refused_if, scalar_eq, Grid, Scene, is_named, changed, refusal, AnyGrid, GridEntry, Done, Num, Scalar}
 use Rattle.vdb_scene.specs.Replies as replies
-use Rattle.vdb_scene.specs.Scalars.{scalar_eq}
-use Rattle.vdb_scene.specs.Scene.{Grid, Scene, is_named}
-use Rattle.vdb_scene.specs.Step.{changed, refusal}
-use Rattle.vdb_scene.specs.declared.any_grid.AnyGrid.{AnyGrid}
-use Rattle.vdb_scene.specs.declared.grid_entry.GridEntry.{GridEntry}
-use Rattle.vdb_scene.specs.declared.answer.Answer.TheVariants.{Done}
 use Rattle.vdb_scene.specs.declared.answer.Refusal.TheVariants as refusals
 use Rattle.vdb_scene.specs.declared.command.Command.TheVariants as commands
-use Rattle.vdb_scene.specs.declared.command.Num.{Num}
-use Rattle.vdb_scene.specs.declared.scalar.Scalar.{Scalar}
 use Rattle.vdb_scene.proofs.Borrowed.{changed_field, found, missing, unchanged}
 use Rattle.vdb_scene.proofs.Steps.{grid_found}
 

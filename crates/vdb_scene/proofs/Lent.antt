@@ -1,10 +1,7 @@
 -- A grid that is moved out of a scene to look at another one, and moved back.
-use Rattle.std.proofs.Common.{◌≡◌, sym, ap, ◌∙◌, subst, rules, ℕ, true, List, Option, Some, None, IsSome}
-use Rattle.std.specs.Map.{lookup, set_value}
+use Rattle.vdb_scene.proofs.Common.{◌≡◌, sym, ap, ◌∙◌, subst, rules, ℕ, true, List, Option, Some, None, IsSome, lookup, set_value, is_named, GridEntry}
 use Rattle.std.proofs.lemmas.Map.Text.{is_eq-slice_cmp}
 use Rattle.std.proofs.lemmas.Slice.Eq.{bytes_eq-Decides}
-use Rattle.vdb_scene.specs.Scene.{is_named}
-use Rattle.vdb_scene.specs.declared.grid_entry.GridEntry.{GridEntry}
 use Rattle.vdb_scene.proofs.Entries.{others_found, put_found, put_twice}
 
 -- two names with one key are equal

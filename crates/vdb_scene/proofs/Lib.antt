@@ -1,5 +1,6 @@
 -- Lemmas on the step of a scene, and worked examples.
 mod Checks
+mod Common
 mod MetaChecks
 pub mod Copying
 pub mod AsIterated

@@ -1,20 +1,11 @@
 -- The listed voxels, before and after each value is mapped to one of any type.
-use Rattle.std.proofs.Common.{◌≡◌, ◌≢◌, ◌⊎◌, inl, inr, refl, sym, ap, ◌∙◌, ℕ, ℤ, Bool, true, false, ◌&&◌, List, [], ◌∷◌, map, filter, Option, Some, None, cond, int_le, IsTrue, arith}
+use Rattle.vdb_scene.proofs.Common.{◌≡◌, ◌⊎◌, inl, inr, refl, sym, ap, ◌∙◌, ℕ, ℤ, Bool, true, false, ◌&&◌, List, [], ◌∷◌, map, Option, Some, None, cond, int_le, IsTrue, arith, option_map, fun_ext, ints, vdb, Box, coord, coordinates, is_box, Coord, Cell, Field, as_field_of, Layout, cell_at, field_of, as_field_of_cell, active, box_across}
+use Rattle.std.proofs.Common.{◌≢◌, filter}
 use Rattle.std.specs.Int.{int_max, int_min}
-use Rattle.std.specs.Option.{option_map}
-use Rattle.std.proofs.Math.Path.{fun_ext}
-use Rattle.std.proofs.lemmas.Int.{ints}
 use Rattle.std.proofs.lemmas.Simd.{map-map}
-use Rattle.vdb_coord.specs.Blocks.{vdb}
 use Rattle.vdb_coord.specs.Boxes as boxes
-use Rattle.vdb_coord.specs.Space.{Box, coord, coordinates, is_box}
-use Rattle.vdb_coord.specs.declared.Coord.{Coord}
-use Rattle.vdb_value.specs.declared.Cell.{Cell}
-use Rattle.vdb_tree.specs.Field.{Field, as_field_of}
-use Rattle.vdb_tree.specs.Layout.{Layout, cell_at, field_of}
-use Rattle.vdb_tree.proofs.AsFieldOf.{as_field_of_cell}
-use Rattle.vdb_walk.specs.Reports.{Yields, Listed, active, in_block_order}
-use Rattle.vdb_scene.specs.Listings.{as_listed_of, as_voxels_of, box_across}
+use Rattle.vdb_walk.specs.Reports.{Yields, Listed, in_block_order}
+use Rattle.vdb_scene.specs.Listings.{as_listed_of, as_voxels_of}
 
 -- ---- the box of two corners
 

@@ -1,25 +1,11 @@
 -- The outcome of a look-up of a voxel, from facts about the grid and the command.
-use Rattle.std.proofs.Common.{◌≡◌, ◌∙◌, ap, refl, sym, ℕ, List, Option, Some, None, Ok, Err, true, false}
-use Rattle.std.specs.Map.{lookup, set_value}
-use Rattle.vdb_coord.specs.Blocks.{vdb}
-use Rattle.vdb_coord.specs.declared.Coord.{Coord}
-use Rattle.vdb_value.specs.declared.Cell.{Cell}
-use Rattle.vdb_tree.specs.Field.{Field, as_field_of}
-use Rattle.vdb_tree.specs.Layout.{Layout, field_of}
-use Rattle.vdb_scene.specs.Doing.{CarriesOut}
-use Rattle.vdb_scene.specs.Grids.{HasSameTree, grid_field, grid_root_limit, grid_of, scene_over}
-use Rattle.vdb_scene.specs.Arguments.{is_accessor, is_coord, coord_of}
+use Rattle.vdb_scene.proofs.Common.{◌≡◌, ◌∙◌, ap, refl, sym, ℕ, List, Option, Some, None, Ok, Err, true, false, lookup, set_value, vdb, Coord, Cell, Field, as_field_of, Layout, field_of, CarriesOut, grid_field, grid_root_limit, grid_of, scene_over, is_accessor, is_coord, coord_of, field_at, is_named, AnyGrid, GridEntry, Num, Point, Scalar}
+use Rattle.vdb_scene.specs.Grids.{HasSameTree}
 use Rattle.vdb_scene.specs.Replies.{Value}
-use Rattle.vdb_scene.specs.Scene.{field_at, is_named}
 use Rattle.vdb_scene.specs.declared.answer.Answer.TheVariants as answers
 use Rattle.vdb_scene.specs.declared.answer.Refusal.TheVariants as refusals
-use Rattle.vdb_scene.specs.declared.any_grid.AnyGrid.{AnyGrid}
-use Rattle.vdb_scene.specs.declared.grid_entry.GridEntry.{GridEntry}
 use Rattle.vdb_scene.specs.declared.any_grid.AnyGrid.TheVariants.{Bool, I32, I64}
 use Rattle.vdb_scene.specs.declared.command.Command.TheVariants as commands
-use Rattle.vdb_scene.specs.declared.command.Num.{Num}
-use Rattle.vdb_scene.specs.declared.command.Point.{Point}
-use Rattle.vdb_scene.specs.declared.scalar.Scalar.{Scalar}
 use Rattle.vdb_scene.specs.declared.scalar.Scalar.TheVariants as scalars
 use Rattle.vdb_scene.proofs.Borrowed.{found, missing, unchanged}
 use Rattle.vdb_scene.proofs.Steps.{field_found, get_accepted}

@@ -1,7 +1,5 @@
 -- Texts and metadata pairs of worked examples, found by computing.
-use Rattle.std.proofs.Common.{◌≡◌, refl, ◌+◌, true, false, [], ◌∷◌, map, codes, replicate, Ok, Err}
-use Rattle.std.specs.List.{range_with_len}
-use Rattle.vdb_scene.specs.Metas.{Pairs, SetsPair, has_pair, is_text, may_set, with_pair, without_pair}
+use Rattle.vdb_scene.proofs.Common.{◌≡◌, refl, ◌+◌, true, false, [], ◌∷◌, map, codes, replicate, Ok, Err, range_with_len, Pairs, SetsPair, has_pair, is_text, may_set, with_pair, without_pair}
 use Rattle.vdb_scene.specs.declared.answer.Refusal.TheVariants as refusals
 
 -- ---- texts

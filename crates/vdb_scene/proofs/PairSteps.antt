@@ -1,20 +1,10 @@
 -- The outcomes of commands on metadata pairs, from facts about the grid.
-use Rattle.std.proofs.Common.{◌≡◌, ◌∙◌, ap, refl, ℕ, Bool, true, false, not, List, [], ◌∷◌, Some, None, Result, Ok, Err}
-use Rattle.std.specs.Map.{lookup, set_value}
-use Rattle.vdb_scene.specs.Doing.{CarriesOut, Does, LeavesTrees, result_of}
-use Rattle.vdb_scene.specs.Grids.{grid_of, scene_over}
-use Rattle.vdb_scene.specs.Metas.{Pairs, SetsPair, has_pair, may_set, with_pair, without_pair}
-use Rattle.vdb_scene.specs.Refusals.{first_of_all, refused_if}
+use Rattle.vdb_scene.proofs.Common.{◌≡◌, ◌∙◌, ap, refl, ℕ, Bool, true, false, not, List, [], ◌∷◌, Some, None, Result, Ok, Err, lookup, set_value, CarriesOut, LeavesTrees, grid_of, scene_over, Pairs, SetsPair, has_pair, may_set, with_pair, without_pair, first_of_all, refused_if, is_named, IsReply, refusal, Done, Refusal, Command, GridEntry}
+use Rattle.vdb_scene.specs.Doing.{Does, result_of}
 use Rattle.vdb_scene.specs.Replies as replies
 use Rattle.vdb_scene.specs.Scene as abstract_scene
-use Rattle.vdb_scene.specs.Scene.{is_named}
-use Rattle.vdb_scene.specs.Step.{IsReply, refusal}
-use Rattle.vdb_scene.specs.declared.answer.Answer.TheVariants.{Done}
-use Rattle.vdb_scene.specs.declared.answer.Refusal.{Refusal}
 use Rattle.vdb_scene.specs.declared.answer.Refusal.TheVariants as refusals
-use Rattle.vdb_scene.specs.declared.command.Command.{Command}
 use Rattle.vdb_scene.specs.declared.command.Command.TheVariants as commands
-use Rattle.vdb_scene.specs.declared.grid_entry.GridEntry.{GridEntry}
 use Rattle.vdb_scene.specs.declared.scene.Scene.{Scene}
 use Rattle.vdb_scene.proofs.Borrowed.{changed_pairs, found, missing, same_scene}
 use Rattle.vdb_scene.proofs.Steps.{grid_found}

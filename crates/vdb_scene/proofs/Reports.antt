@@ -1,18 +1,10 @@
 -- The reports on a field, before and after each value is mapped to one of any type.
-use Rattle.std.proofs.Common.{◌≡◌, ap, sym, ◌∙◌, Bool, not, Option, Some, None}
+use Rattle.vdb_scene.proofs.Common.{◌≡◌, ap, sym, ◌∙◌, Bool, not, Option, Some, None, fun_ext, block, vdb, Box, coordinates, Bits, Coord, Leaf, Upper, Field, as_field_of, Layout, cell_at, field_of, as_field_of_cell, as_field_of_constant, as_field_of_roots, Cell}
 use Rattle.std.specs.List.{count_by}
-use Rattle.std.proofs.Math.Path.{fun_ext}
-use Rattle.vdb_coord.specs.Blocks.{block, block_numbers, vdb}
-use Rattle.vdb_coord.specs.Space.{Box, coordinates}
-use Rattle.vdb_coord.specs.declared.Bits.{Bits}
-use Rattle.vdb_coord.specs.declared.Coord.{Coord}
+use Rattle.vdb_coord.specs.Blocks.{block_numbers}
 use Rattle.vdb_coord.specs.declared.Level.{Level}
-use Rattle.vdb_coord.specs.declared.Level.TheVariants.{Leaf, Lower, Upper}
-use Rattle.vdb_tree.specs.Field.{Field, as_field_of}
-use Rattle.vdb_tree.specs.Layout.{Layout, cell_at, field_of}
+use Rattle.vdb_coord.specs.declared.Level.TheVariants.{Lower}
 use Rattle.vdb_tree.specs.ConstantBlocks.{count, non_constant}
-use Rattle.vdb_tree.proofs.AsFieldOf.{as_field_of_cell, as_field_of_constant, as_field_of_roots}
-use Rattle.vdb_value.specs.declared.Cell.{Cell}
 use Rattle.vdb_walk.specs.Reports.{IsActiveBounds, census}
 
 module _ {V U : Type 0} (make : V → U) (t : Layout V) where

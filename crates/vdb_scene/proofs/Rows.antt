@@ -1,12 +1,9 @@
 -- Whole numbers from one to another, one after another.
-use Rattle.std.proofs.Common.{◌≡◌, refl, sym, ap, ◌∙◌, ℕ, zero, suc, ◌+◌, ◌<◌, ℤ, pos, negsuc, ◌+ℤ◌, ◌<ℤ◌, true, [], ◌∷◌, map, Option, Some, length, int_le, arith}
-use Rattle.std.specs.List.{range_with_len}
+use Rattle.vdb_scene.proofs.Common.{◌≡◌, refl, sym, ap, ◌∙◌, ℕ, zero, suc, ◌+◌, ◌<◌, ℤ, pos, negsuc, ◌+ℤ◌, ◌<ℤ◌, true, [], ◌∷◌, map, Option, Some, length, int_le, arith, range_with_len, ints, extent, grid_field, numbers_left}
 use Rattle.std.proofs.lemmas.List.FromFn.{length-map-range_with_len}
 use Rattle.std.proofs.lemmas.List.{length-map}
-use Rattle.std.proofs.lemmas.Int.{ints}
-use Rattle.vdb_coord.specs.Space.{extent, range}
-use Rattle.vdb_scene.specs.Grids.{grid_field}
-use Rattle.vdb_scene.specs.Slices.{numbers_left, rows_left}
+use Rattle.vdb_coord.specs.Space.{range}
+use Rattle.vdb_scene.specs.Slices.{rows_left}
 use Rattle.vdb_scene.specs.Replies.{row_at}
 use Rattle.vdb_scene.specs.declared.slice.Slice.{Slice}
 

@@ -1,9 +1,7 @@
 -- Values of any type that compare equal are equal.
-use Rattle.std.proofs.Common.{◌≡◌, refl, ap, Bool, true, false}
+use Rattle.vdb_scene.proofs.Common.{◌≡◌, refl, ap, Bool, true, false, scalar_eq, Scalar, I32, I64}
 use Rattle.std.proofs.lemmas.Bool.Decides.{Decides-int_eq}
-use Rattle.vdb_scene.specs.Scalars.{scalar_eq}
-use Rattle.vdb_scene.specs.declared.scalar.Scalar.{Scalar}
-use Rattle.vdb_scene.specs.declared.scalar.Scalar.TheVariants.{Bool as truth, I32, I64}
+use Rattle.vdb_scene.specs.declared.scalar.Scalar.TheVariants.{Bool as truth}
 
 same_truth : (a b : Bool) → scalar_eq (truth a) (truth b) ≡ true → a ≡ b
 same_truth true true h = refl

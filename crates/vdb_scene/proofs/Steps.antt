@@ -1,22 +1,10 @@
 -- Steps of the abstract scene, from facts about a command.
-use Rattle.std.proofs.Common.{◌≡◌, refl, ap, ◌∙◌, ℕ, Bool, true, false, cond, ◌&&◌, not, List, [], ◌∷◌, Option, Some, None, unwrap_or, Err, inl, inr}
-use Rattle.vdb_scene.specs.Doing.{CarriesOut, ShowsStep}
-use Rattle.vdb_tree.specs.Field.{Field}
-use Rattle.vdb_scene.specs.Scalars.{kind_of}
-use Rattle.vdb_scene.specs.Scene.{Grid, Scene, field_at, grid_at, kind_at, new_grid, the_grid}
-use Rattle.vdb_scene.specs.declared.scalar.Scalar.{Scalar}
+use Rattle.vdb_scene.proofs.Common.{◌≡◌, refl, ap, ◌∙◌, ℕ, Bool, true, false, cond, ◌&&◌, not, List, [], ◌∷◌, Option, Some, None, unwrap_or, Err, inl, inr, CarriesOut, Field, kind_of, Grid, Scene, field_at, grid_at, kind_at, new_grid, the_grid, Scalar, is_accessor, is_coord, first_of_all, Refused, refusal, Refusal, Command, Num, Point}
+use Rattle.vdb_scene.specs.Doing.{ShowsStep}
 use Rattle.vdb_scene.specs.declared.scalar.Scalar.TheVariants.{Bool as truth}
-use Rattle.vdb_scene.specs.Arguments.{is_accessor, is_coord}
-use Rattle.vdb_scene.specs.Refusals.{first_of_all}
-use Rattle.vdb_scene.specs.Replies.{Refused}
-use Rattle.vdb_scene.specs.Step.{refusal}
 use Rattle.vdb_scene.specs.declared.answer.Answer.TheVariants as answers
-use Rattle.vdb_scene.specs.declared.answer.Refusal.{Refusal}
 use Rattle.vdb_scene.specs.declared.answer.Refusal.TheVariants as refusals
-use Rattle.vdb_scene.specs.declared.command.Command.{Command}
 use Rattle.vdb_scene.specs.declared.command.Command.TheVariants as commands
-use Rattle.vdb_scene.specs.declared.command.Num.{Num}
-use Rattle.vdb_scene.specs.declared.command.Point.{Point}
 
 -- if a conditional value exists, its test holds
 pub test_passes : {A : Type 0} (b : Bool) (x y : A) → cond b (Some x) None ≡ Some y → (b ≡ true) × (x ≡ y)

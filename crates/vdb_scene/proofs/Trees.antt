@@ -1,25 +1,11 @@
 -- The trees after commands, from facts about them.
-use Rattle.std.proofs.Common.{◌≡◌, ◌∙◌, refl, sym, ap, ℕ, Bool, true, false, List, [], ◌∷◌, Option, Some}
-use Rattle.std.specs.Map.{lookup, set_value}
-use Rattle.vdb_coord.specs.declared.Coord.{Coord}
-use Rattle.vdb_tree.specs.declared.Write.{Write}
+use Rattle.vdb_scene.proofs.Common.{◌≡◌, ◌∙◌, refl, sym, ap, ℕ, Bool, true, false, List, [], ◌∷◌, Option, Some, lookup, set_value, Coord, Write, TreeRefusal, Memory, RootLimit, LeavesTrees, PutsGrid, changed_name, coords_by, grid_coords, coord_of, is_named, first_of_all, of_tree, other_form, out_of_range, write_command, GridEntry, Done, Refusal, Command, Literal, Num, Point}
 use Rattle.vdb_tree.specs.declared.Write.TheVariants as writes
-use Rattle.vdb_tree.specs.declared.refusal.TreeRefusal.{TreeRefusal}
-use Rattle.vdb_tree.specs.declared.refusal.TreeRefusal.TheVariants.{Memory, RootLimit}
-use Rattle.vdb_scene.specs.Doing.{KeepsGrids, LeavesTrees, PutsAccessed, PutsGrid, changed_name, coords_by}
-use Rattle.vdb_scene.specs.Grids.{coords_after, grid_coords}
-use Rattle.vdb_scene.specs.Arguments.{accessor_of, coord_of}
-use Rattle.vdb_scene.specs.Scene.{is_named}
-use Rattle.vdb_scene.specs.Refusals.{first_of_all, of_tree, other_form, out_of_range}
-use Rattle.vdb_scene.specs.Step.{write_command}
-use Rattle.vdb_scene.specs.declared.grid_entry.GridEntry.{GridEntry}
-use Rattle.vdb_scene.specs.declared.answer.Answer.TheVariants.{Done, Refused}
-use Rattle.vdb_scene.specs.declared.answer.Refusal.{Refusal}
+use Rattle.vdb_scene.specs.Doing.{KeepsGrids, PutsAccessed}
+use Rattle.vdb_scene.specs.Grids.{coords_after}
+use Rattle.vdb_scene.specs.Arguments.{accessor_of}
+use Rattle.vdb_scene.specs.declared.answer.Answer.TheVariants.{Refused}
 use Rattle.vdb_scene.specs.declared.answer.Refusal.TheVariants as refusals
-use Rattle.vdb_scene.specs.declared.command.Command.{Command}
-use Rattle.vdb_scene.specs.declared.command.Literal.{Literal}
-use Rattle.vdb_scene.specs.declared.command.Num.{Num}
-use Rattle.vdb_scene.specs.declared.command.Point.{Point}
 use Rattle.vdb_scene.specs.declared.scene.Scene.{Scene}
 use Rattle.vdb_scene.proofs.Entries.{set_value-found}
 

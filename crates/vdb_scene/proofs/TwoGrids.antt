@@ -1,30 +1,14 @@
 -- Operations on two grids of any type, from operations on two trees.
-use Rattle.std.proofs.Common.{subst, ◌≡◌, refl, sym, ap, ◌∙◌, ◌<◌, ◌≤◌, ℕ, Bool, true, false, cond, ◌||◌, List, [], ◌∷◌, Option, Some, None, is_none, unwrap_or, option_map, Result, Ok, Err}
-use Rattle.std.specs.List.{list_any}
-use Rattle.std.proofs.Math.Path.{fun_ext}
-use Rattle.std.proofs.lemmas.Bool.{le-ltb, lt-ltb}
-use Rattle.vdb_coord.specs.Blocks.{vdb}
-use Rattle.vdb_coord.specs.Space.{coordinates, everywhere}
-use Rattle.vdb_coord.specs.declared.Bits.{Bits}
-use Rattle.vdb_coord.specs.declared.Coord.{Coord}
-use Rattle.vdb_value.specs.declared.Cell.{Cell}
+use Rattle.vdb_scene.proofs.Common.{subst, ◌≡◌, refl, sym, ap, ◌∙◌, ◌<◌, ◌≤◌, ℕ, Bool, true, false, cond, ◌||◌, List, [], ◌∷◌, Option, Some, None, is_none, unwrap_or, Result, Ok, Err, list_any, fun_ext, le-ltb, lt-ltb, vdb, coordinates, everywhere, Bits, Coord, Cell, Kind, roots, Field, as_field_of, combine, field, replace, with_states, IsOutcome, TreeRefusal, Memory, RootLimit, as_field_of_cell, as_field_of_roots, same_cells, beyond_limit, of_tree, kind_eq, kind_of, scalar_eq, Refusal, Scalar}
+use Rattle.std.proofs.Common.{option_map}
 use Rattle.vdb_value.specs.Values.{has_sums}
-use Rattle.vdb_value.specs.declared.Kind.{Kind}
 use Rattle.vdb_value.specs.declared.Kind.TheVariants as kinds
-use Rattle.vdb_tree.specs.ConstantBlocks.{roots}
-use Rattle.vdb_tree.specs.Field.{Field, as_cell_of, as_field_of, combine, field, lacks_sum, replace, sum, with_states}
-use Rattle.vdb_tree.specs.Outcome.{IsOutcome}
-use Rattle.vdb_tree.specs.declared.refusal.TreeRefusal.{TreeRefusal}
-use Rattle.vdb_tree.specs.declared.refusal.TreeRefusal.TheVariants.{Memory, RootLimit}
-use Rattle.vdb_tree.proofs.AsFieldOf.{as_field_of_cell, as_field_of_combine, as_field_of_roots, as_outcome_of}
-use Rattle.vdb_tree.proofs.Fields.{same_cells}
-use Rattle.vdb_scene.specs.Refusals.{beyond_limit, no_sum, of_tree, other_kind}
-use Rattle.vdb_scene.specs.Scalars.{kind_eq, kind_of, scalar_eq}
-use Rattle.vdb_scene.specs.declared.answer.Refusal.{Refusal}
+use Rattle.vdb_tree.specs.Field.{as_cell_of, lacks_sum, sum}
+use Rattle.vdb_tree.proofs.AsFieldOf.{as_field_of_combine, as_outcome_of}
+use Rattle.vdb_scene.specs.Refusals.{no_sum, other_kind}
 use Rattle.vdb_scene.specs.declared.answer.Refusal.TheVariants as refusals
 use Rattle.vdb_composite.specs.SumOutcome.{IsSumOutcome}
 use Rattle.vdb_scene.specs.TwoGrids.{Gives, of_sum}
-use Rattle.vdb_scene.specs.declared.scalar.Scalar.{Scalar}
 use Rattle.vdb_composite.specs.declared.sums.SumRefusal.{SumRefusal}
 use Rattle.vdb_composite.specs.declared.sums.SumRefusal.TheVariants as sums
 

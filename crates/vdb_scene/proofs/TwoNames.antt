@@ -1,27 +1,14 @@
 -- The outcome of a command on two grids, from facts about them.
-use Rattle.std.proofs.Common.{◌≡◌, refl, sym, ap, ◌∙◌, rules, ℕ, true, false, List, ◌∷◌, Option, Some, None, is_none, is_some, IsSome, Ok, Err}
+use Rattle.vdb_scene.proofs.Common.{◌≡◌, refl, sym, ap, ◌∙◌, rules, ℕ, true, false, List, ◌∷◌, Option, Some, None, is_none, is_some, IsSome, Ok, Err, lookup, set_value, Coord, CarriesOut, LeavesTrees, PutsGrid, changed_name, coords_by, grid_coords, grid_field, grid_root_limit, grid_of, scene_over, first_of_all, no_grid, same_grid, field_at, grid_at, is_named, limit_at, IsReply, after, changed, first_refusal, refusal, takes_memory, tried, made_of, tried_of, AnyGrid, GridEntry, Done, Refusal, Unite, Subtract, Intersect, Maximum, Minimum, Sum, Replace, Operation, States, Values}
 use Rattle.std.specs.Cmp.Lexicographic.{pointwise, texts_ties}
 use Rattle.std.specs.Prelude.{nat_eq}
-use Rattle.std.specs.Map.{lookup, set_value}
-use Rattle.vdb_coord.specs.declared.Coord.{Coord}
-use Rattle.vdb_scene.specs.Doing.{CarriesOut, LeavesTrees, PutsGrid, PutsTree, changed_name, coords_by}
-use Rattle.vdb_scene.specs.Grids.{grid_coords, grid_field, grid_root_limit, grid_of, scene_over}
-use Rattle.vdb_scene.specs.Refusals.{first_of_all, no_grid, same_grid}
+use Rattle.vdb_scene.specs.Doing.{PutsTree}
 use Rattle.vdb_scene.specs.Replies as replies
 use Rattle.vdb_scene.specs.Scene as abstract_scene
-use Rattle.vdb_scene.specs.Scene.{field_at, grid_at, is_named, limit_at, with_changed}
-use Rattle.vdb_scene.specs.Step.{IsReply, after, changed, first_refusal, refusal, takes_memory, tried}
-use Rattle.vdb_scene.specs.TwoGrids.{IsMade, StaysBut, command_of, made_of, tried_of}
-use Rattle.vdb_scene.specs.declared.any_grid.AnyGrid.{AnyGrid}
-use Rattle.vdb_scene.specs.declared.grid_entry.GridEntry.{GridEntry}
-use Rattle.vdb_scene.specs.declared.answer.Answer.TheVariants.{Done, Refused}
-use Rattle.vdb_scene.specs.declared.answer.Refusal.{Refusal}
+use Rattle.vdb_scene.specs.TwoGrids.{IsMade, StaysBut, command_of}
+use Rattle.vdb_scene.specs.declared.answer.Answer.TheVariants.{Refused}
 use Rattle.vdb_scene.specs.declared.answer.Refusal.TheVariants as refusals
 use Rattle.vdb_scene.specs.declared.scene.Scene.{Scene}
-use Rattle.vdb_tree.specs.declared.pairs.StateRule.TheVariants.{Unite, Subtract, Intersect}
-use Rattle.vdb_scene.specs.declared.two_grids.Composite.TheVariants.{Maximum, Minimum, Sum, Replace}
-use Rattle.vdb_scene.specs.declared.two_grids.Operation.{Operation}
-use Rattle.vdb_scene.specs.declared.two_grids.Operation.TheVariants.{States, Values}
 use Rattle.vdb_scene.proofs.Borrowed.{absent_is, changed_field, found, unchanged}
 use Rattle.vdb_scene.proofs.Entries.{set_value-found}
 use Rattle.vdb_scene.proofs.Steps.{field_found, grid_found}

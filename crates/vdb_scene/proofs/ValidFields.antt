@@ -1,36 +1,20 @@
 -- The fields of operations have values of their type, and are background beyond the range of coordinates.
-use Rattle.std.proofs.Common.{◌≡◌, ◌∙◌, refl, sym, subst, inl, inr, ℕ, zero, suc, ◌≤◌, ℤ, Bool, true, false, cond, Some, None, unwrap_or, []}
-use Rattle.std.specs.Option.{option_map}
-use Rattle.std.specs.Prelude.{◌+ℤ◌, ◌||◌, ◌&&◌, not, int_lt}
+use Rattle.vdb_scene.proofs.Common.{◌≡◌, ◌∙◌, refl, sym, subst, inl, inr, ℕ, zero, suc, ◌≤◌, ℤ, Bool, true, false, cond, Some, None, unwrap_or, [], option_map, ◌+ℤ◌, ◌||◌, ◌&&◌, not, block, vdb, Box, everywhere, Coord, Upper, Cell, Kind, roots, Field, clip, combine, dilate, erode, field, fill, new, replace, ruled, iterations, with_states, write, written, Write, Unite, Subtract, Intersect, has_form, has_value, kind_eq, kind_of, scalar, scalar_eq, scalar_greater, scalar_lesser, scalar_sum, passes, IsField, is_value_of, Literal, Number, Truth, Near, Scalar, I32, I64}
+use Rattle.std.specs.Prelude.{int_lt}
 use Rattle.std.proofs.lemmas.Bool.{cases_Bool}
-use Rattle.vdb_coord.specs.Blocks.{block, vdb}
-use Rattle.vdb_coord.specs.Space.{Box, coord_eq, everywhere, is_inside}
-use Rattle.vdb_coord.specs.declared.Coord.{Coord}
-use Rattle.vdb_coord.specs.declared.Level.TheVariants.{Upper}
+use Rattle.vdb_coord.specs.Space.{coord_eq, is_inside}
 use Rattle.vdb_value.specs.Values.{has_number}
-use Rattle.vdb_value.specs.declared.Cell.{Cell}
-use Rattle.vdb_value.specs.declared.Kind.{Kind}
 use Rattle.vdb_value.specs.declared.Kind.TheVariants as kinds
-use Rattle.vdb_tree.specs.ConstantBlocks.{roots}
-use Rattle.vdb_tree.specs.Field.{Field, clip, combine, dilate, erode, field, fill, new, off, replace, ruled, iterations, with_states, write, written}
-use Rattle.vdb_tree.specs.declared.Write.{Write}
+use Rattle.vdb_tree.specs.Field.{off}
 use Rattle.vdb_tree.specs.declared.Write.TheVariants as writes
 use Rattle.vdb_tree.specs.declared.pairs.StateRule.{StateRule}
-use Rattle.vdb_tree.specs.declared.pairs.StateRule.TheVariants.{Unite, Subtract, Intersect}
 use Rattle.vdb_tree.proofs.Blocks.{never}
 use Rattle.vdb_tree.proofs.Rooted.{roots_at_most}
 use Rattle.vdb_tree.proofs.Uniform.{uniform_from}
 use Rattle.vdb_morph.proofs.IterationLaws.{eroded_roots}
 use Rattle.vdb_region.proofs.Clearing.{clip_within}
-use Rattle.vdb_scene.specs.Scalars.{has_form, has_value, kind_eq, kind_of, scalar, scalar_eq, scalar_greater, scalar_lesser, scalar_sum}
-use Rattle.vdb_scene.specs.Step.{passes}
 use Rattle.vdb_scene.proofs.ScalarValues.{scalar_exact, scalar_itself}
-use Rattle.vdb_scene.specs.ValidScenes.{IsField, is_value_of}
-use Rattle.vdb_scene.specs.declared.command.Literal.{Literal}
-use Rattle.vdb_scene.specs.declared.command.Literal.TheVariants.{Number, Truth}
-use Rattle.vdb_scene.specs.declared.command.Num.TheVariants.{Near}
-use Rattle.vdb_scene.specs.declared.scalar.Scalar.{Scalar}
-use Rattle.vdb_scene.specs.declared.scalar.Scalar.TheVariants.{Bool as truth, I32, I64}
+use Rattle.vdb_scene.specs.declared.scalar.Scalar.TheVariants.{Bool as truth}
 
 -- ---- values
 

@@ -1,42 +1,20 @@
 -- Each step from a scene that files encode leads to another one.
-use Rattle.std.proofs.Common.{◌≡◌, refl, sym, subst, inl, inr, ℕ, pos, negsuc, ◌<◌, ◌≤◌, Bool, true, false, not, ◌&&◌, ◌||◌, List, [], ◌∷◌, length, Option, Some, None, is_none, unwrap_or, nat_le, nat_lt, Result, Ok, Err, arith}
-use Rattle.std.specs.List.{AllByRecursion}
+use Rattle.vdb_scene.proofs.Common.{◌≡◌, refl, sym, subst, inl, inr, ℕ, pos, negsuc, ◌<◌, ◌≤◌, Bool, true, false, not, ◌&&◌, ◌||◌, List, [], ◌∷◌, length, Option, Some, None, is_none, unwrap_or, nat_lt, Result, Ok, Err, arith, AllByRecursion, nat_cmp, slice_cmp, ints, vdb, Kind, roots, Field, as_write_of, clip, combine, dilate, erode, fill, replace, iterations, write, Write, are_coords, box_between, coord_of, count_of, is_coord, is_iteration_count, Pairs, has_pair, is_text, may_set, with_pair, without_pair, is_name, first_of_all, no_grid, refused_if, same_grid, has_form, has_value, kind_eq, kind_of, scalar, scalar_eq, scalar_greater, scalar_lesser, scalar_sum, Grid, Scene, field_at, grid_at, is_named, kind_at, limit_at, new_grid, the_grid, with_grid, Step, after, changed, passes, refusal, tried, tried_write, with_pairs, write_at, made_of, tried_of, IsField, is_value_of, Refusal, Command, Literal, Num, Near, Far, Point, Scalar, Operation, States, Values, Unite, Subtract, Intersect, Maximum, Minimum, Sum, Replace}
+use Rattle.std.proofs.Common.{nat_le}
 use Rattle.std.specs.List.Sorted.{IsStrictlySortedBy}
-use Rattle.std.specs.Ordering.{nat_cmp}
-use Rattle.std.specs.Cmp.Lexicographic.{nat_list_cmp_total, slice_cmp}
+use Rattle.std.specs.Cmp.Lexicographic.{nat_list_cmp_total}
 use Rattle.std.proofs.lemmas.Bool.{leb-false, ltb-false}
 use Rattle.std.proofs.lemmas.Bool.Decides.{nat_tests}
-use Rattle.std.proofs.lemmas.Int.{ints}
 use Rattle.std.proofs.lemmas.Map.{keys-set_value, length-set_value}
-use Rattle.vdb_coord.specs.Blocks.{vdb}
-use Rattle.vdb_value.specs.declared.Kind.{Kind}
-use Rattle.vdb_tree.specs.ConstantBlocks.{roots}
-use Rattle.vdb_tree.specs.Field.{Field, as_write_of, clip, combine, dilate, erode, fill, replace, iterations, write}
-use Rattle.vdb_tree.specs.declared.Write.{Write}
 use Rattle.vdb_tree.specs.declared.Write.TheVariants as writes
-use Rattle.vdb_scene.specs.Arguments.{are_coords, box_between, coord_of, count_of, is_coord, is_root_limit, is_iteration_count, root_limit_of}
-use Rattle.vdb_scene.specs.Metas.{Pairs, has_pair, is_text, may_set, with_pair, without_pair}
-use Rattle.vdb_scene.specs.Names.{is_name}
-use Rattle.vdb_scene.specs.Refusals.{first_of_all, name_taken, no_grid, refused_if, same_grid, too_many_grids}
+use Rattle.vdb_scene.specs.Arguments.{is_root_limit, root_limit_of}
+use Rattle.vdb_scene.specs.Refusals.{name_taken, too_many_grids}
 use Rattle.vdb_scene.specs.Replies.{Reply}
-use Rattle.vdb_scene.specs.Scalars.{has_form, has_value, kind_eq, kind_of, scalar, scalar_eq, scalar_greater, scalar_lesser, scalar_sum}
-use Rattle.vdb_scene.specs.Scene.{Grid, Scene, field_at, grid_at, is_named, kind_at, limit_at, new_grid, pairs_at, the_grid, with_changed, with_grid, without_grid}
-use Rattle.vdb_scene.specs.Step.{Inserts, Step, after, cell_of_line, changed, meaning_of_two, passes, refusal, tried, tried_write, with_pairs, write_at}
-use Rattle.vdb_scene.specs.TwoGrids.{made_of, tried_of}
-use Rattle.vdb_scene.specs.ValidScenes.{ArePairs, HasValidTexts, IsField, IsGrid, IsPair, IsScene, is_value_of}
-use Rattle.vdb_scene.specs.declared.answer.Refusal.{Refusal}
+use Rattle.vdb_scene.specs.Scene.{pairs_at, with_changed, without_grid}
+use Rattle.vdb_scene.specs.Step.{Inserts, cell_of_line, meaning_of_two}
+use Rattle.vdb_scene.specs.ValidScenes.{ArePairs, HasValidTexts, IsGrid, IsPair, IsScene}
 use Rattle.vdb_scene.specs.declared.answer.Refusal.TheVariants as refusals
-use Rattle.vdb_scene.specs.declared.command.Command.{Command}
 use Rattle.vdb_scene.specs.declared.command.Command.TheVariants as commands
-use Rattle.vdb_scene.specs.declared.command.Literal.{Literal}
-use Rattle.vdb_scene.specs.declared.command.Num.{Num}
-use Rattle.vdb_scene.specs.declared.command.Num.TheVariants.{Near, Far}
-use Rattle.vdb_scene.specs.declared.command.Point.{Point}
-use Rattle.vdb_scene.specs.declared.scalar.Scalar.{Scalar}
-use Rattle.vdb_scene.specs.declared.two_grids.Operation.{Operation}
-use Rattle.vdb_scene.specs.declared.two_grids.Operation.TheVariants.{States, Values}
-use Rattle.vdb_tree.specs.declared.pairs.StateRule.TheVariants.{Unite, Subtract, Intersect}
-use Rattle.vdb_scene.specs.declared.two_grids.Composite.TheVariants.{Maximum, Minimum, Sum, Replace}
 use Rattle.vdb_scene.proofs.Steps.{grid_found}
 use Rattle.vdb_scene.proofs.ValidEntries.{all_found, all_inserted, all_put, all_removed, length_inserted, length_removed, length_replaced, sorted_inserted, sorted_removed}
 use Rattle.vdb_scene.proofs.ValidFields.{IsClosed, clip_is, clip_roots, combine_is, dilated_is, eroded_is, erosion_roots, fill_is, greater_closed, kind_exact, kind_read, lesser_closed, new_is, new_roots, replace_is, ruled_is, sum_closed, value_read, write_is}

@@ -1,34 +1,10 @@
 -- The outcome of a write of a voxel, from facts about the grid and the command.
-use Rattle.std.proofs.Common.{◌≡◌, refl, sym, ap, ◌∙◌, subst, ◌⊎◌, inl, inr, ◌≤◌, ℕ, Bool, true, false, not, ◌&&◌, nat_lt, List, [], ◌∷◌, Option, Some, None, is_none, Ok, Err, IsOk, IsTrue}
-use Rattle.std.proofs.lemmas.Bool.{le-ltb, lt-ltb}
-use Rattle.std.specs.Map.{lookup}
-use Rattle.vdb_coord.specs.Blocks.{vdb}
-use Rattle.vdb_coord.specs.declared.Coord.{Coord}
-use Rattle.vdb_value.specs.declared.Kind.{Kind}
-use Rattle.vdb_tree.specs.Field.{Field, as_write_of, write}
-use Rattle.vdb_tree.specs.Outcome.{IsOutcome}
-use Rattle.vdb_tree.specs.ConstantBlocks.{roots}
-use Rattle.vdb_tree.specs.declared.Write.{Write}
+use Rattle.vdb_scene.proofs.Common.{◌≡◌, refl, sym, ap, ◌∙◌, subst, ◌⊎◌, inl, inr, ◌≤◌, ℕ, Bool, true, false, not, ◌&&◌, nat_lt, List, [], ◌∷◌, Option, Some, None, is_none, Ok, Err, IsTrue, le-ltb, lt-ltb, lookup, vdb, Coord, Kind, Field, as_write_of, write, IsOutcome, roots, Write, TreeRefusal, Memory, RootLimit, CarriesOut, grid_field, grid_root_limit, grid_of, scene_over, has_form, has_value, kind_of, scalar, scalar_eq, Grid, Scene, field_at, grid_at, is_named, kind_at, limit_at, is_accessor, is_coord, coord_of, first_of_all, of_tree, other_form, out_of_range, refused_if, IsReply, after, changed, first_refusal, passes, refusal, takes_memory, tried_write, write_at, write_command, write_takes_memory, GridEntry, Done, Refusal, Command, Literal, Num, Point, Scalar}
+use Rattle.std.proofs.Common.{IsOk}
 use Rattle.vdb_tree.specs.declared.Write.TheVariants as writes
-use Rattle.vdb_tree.specs.declared.refusal.TreeRefusal.{TreeRefusal}
-use Rattle.vdb_tree.specs.declared.refusal.TreeRefusal.TheVariants.{Memory, RootLimit}
-use Rattle.vdb_scene.specs.Doing.{CarriesOut}
-use Rattle.vdb_scene.specs.Grids.{grid_field, grid_root_limit, grid_of, scene_over}
-use Rattle.vdb_scene.specs.Scalars.{has_form, has_value, kind_of, scalar, scalar_eq}
-use Rattle.vdb_scene.specs.Scene.{Grid, Scene, field_at, grid_at, is_named, kind_at, limit_at}
 use Rattle.vdb_scene.specs.Replies as replies
-use Rattle.vdb_scene.specs.Arguments.{is_accessor, is_coord, coord_of}
-use Rattle.vdb_scene.specs.Refusals.{first_of_all, of_tree, other_form, out_of_range, refused_if}
-use Rattle.vdb_scene.specs.Step.{IsReply, after, after_write, changed, first_refusal, line_takes_memory, passes, refusal, takes_memory, tried_write, write_at, write_command, write_takes_memory}
-use Rattle.vdb_scene.specs.declared.grid_entry.GridEntry.{GridEntry}
-use Rattle.vdb_scene.specs.declared.answer.Answer.TheVariants.{Done}
-use Rattle.vdb_scene.specs.declared.answer.Refusal.{Refusal}
+use Rattle.vdb_scene.specs.Step.{after_write, line_takes_memory}
 use Rattle.vdb_scene.specs.declared.answer.Refusal.TheVariants as refusals
-use Rattle.vdb_scene.specs.declared.command.Command.{Command}
-use Rattle.vdb_scene.specs.declared.command.Literal.{Literal}
-use Rattle.vdb_scene.specs.declared.command.Num.{Num}
-use Rattle.vdb_scene.specs.declared.command.Point.{Point}
-use Rattle.vdb_scene.specs.declared.scalar.Scalar.{Scalar}
 use Rattle.vdb_scene.proofs.Borrowed.{found, missing}
 use Rattle.vdb_scene.proofs.Steps.{grid_found, kind_found, refused, value_first}
 

@@ -276,6 +276,50 @@ impl Scene {
         Ok(Answer::Slice(Slice::new(&entry.grid, bounds)))
     }
 
+    /// Carries out a command that counts active voxels.
+    fn count(
+        &self,
+        name: &Name,
+        corners: &Option<Corners>,
+        steps: &mut Steps,
+    ) -> Result<Answer<'static>, Refusal>
+        ensures { CarriesOut (scene_of self.now) (commands.Count name.now corners.now) result (scene_of self.now) }
+    {
+        let Some(entry) = self.entry(name) else {
+            return Err(Refusal::NoGrid);
+        };
+        match corners {
+            Some(corners) => {
+                let bounds = bounds_of(corners)?;
+                Ok(Answer::Count(entry.grid.count(Some(bounds), steps)))
+            }
+            None => Ok(Answer::Count(entry.grid.count(None, steps))),
+        }
+    }
+
+    /// Carries out a command that asks for the bounding box of the active voxels.
+    fn bounds(&self, name: &Name, steps: &mut Steps) -> Result<Answer<'static>, Refusal>
+        ensures { CarriesOut (scene_of self.now) (commands.Bounds name.now) result (scene_of self.now) }
+    {
+        let Some(entry) = self.entry(name) else {
+            return Err(Refusal::NoGrid);
+        };
+        match entry.grid.active_bounds(steps) {
+            Some(bounds) => Ok(Answer::Bounds(Some((bounds.min(), bounds.max())))),
+            None => Ok(Answer::Bounds(None)),
+        }
+    }
+
+    /// Carries out a command that asks for the size of the smallest tree.
+    fn census(&self, name: &Name, steps: &mut Steps) -> Result<Answer<'static>, Refusal>
+        ensures { CarriesOut (scene_of self.now) (commands.Census name.now) result (scene_of self.now) }
+    {
+        let Some(entry) = self.entry(name) else {
+            return Err(Refusal::NoGrid);
+        };
+        Ok(Answer::Census(entry.grid.census(steps)))
+    }
+
     /// Carries out a command and returns its answer. Errors are tried in a fixed order, and the answer is the first that applies.
     /// An error leaves the scene unchanged, also `Memory`. `Memory` hides no other error, except the `RootLimit` of a dilation.
     pub fn apply(&mut self, command: &Command, steps: &mut Steps) -> Answer<'_>

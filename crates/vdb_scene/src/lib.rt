@@ -9,7 +9,6 @@ mod command;
 mod grid_entry;
 mod grid_metas;
 mod grid_pair;
-mod grid_reports;
 mod grid_tree;
 mod iterations;
 mod laws;

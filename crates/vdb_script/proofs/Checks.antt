@@ -1,5 +1,6 @@
 -- Lines, tokens, commands and texts, found by computing.
-use Rattle.std.proofs.Common.{refl, ◌≡◌, pos, negsuc, true, false, [], ◌∷◌, ◌++◌, replicate, codes, Some, None, Ok, Err}
+use Rattle.vdb_script.proofs.Common.{refl, ◌≡◌, pos, true, false, [], ◌∷◌, ◌++◌, codes, Some, None, Ok, Err, coord, Refused, Bounds, tokens, number_of, parse, read}
+use Rattle.std.proofs.Common.{negsuc, replicate}
 use Rattle.std.specs.List.{flat_map}
 use Rattle.std.specs.Fmt.{digits}
 use Rattle.vdb_value.specs.declared.Kind.TheVariants as kinds
@@ -8,11 +9,8 @@ use Rattle.vdb_scene.specs.declared.command.Literal.TheVariants.{Number, Truth}
 use Rattle.vdb_scene.specs.declared.command.Num.TheVariants.{Near, Far}
 use Rattle.vdb_scene.specs.declared.answer.Refusal.TheVariants as refusals
 use Rattle.vdb_scene.specs.declared.scalar.Scalar.TheVariants.{I32, I64}
-use Rattle.vdb_coord.specs.Space.{coord}
-use Rattle.vdb_scene.specs.Replies.{Done, Refused, Value, Count, Bounds, Census}
-use Rattle.vdb_script.specs.Lines.{lines, tokens}
-use Rattle.vdb_script.specs.Grammar.{number_of, parse}
-use Rattle.vdb_script.specs.Run.{read}
+use Rattle.vdb_scene.specs.Replies.{Done, Value, Count, Census}
+use Rattle.vdb_script.specs.Lines.{lines}
 use Rattle.vdb_script.specs.Text.{text}
 
 -- ---- lines and tokens

@@ -1,16 +1,8 @@
 -- Each form takes a fixed number of tokens.
-use Rattle.std.proofs.Common.{◌≡◌, ◌≢◌, ℕ, ◌+◌, ◌<◌, ◌≤◌, Bool, true, false, cond, List, [], ◌∷◌, Option, Some, None, Ok, Err, length, refl, ap, sym, ◌∙◌, arith, bytes_eq, codes, get_or, ◌⊎◌, inl, inr}
-use Rattle.std.specs.Prelude.{option_map, option_and_then, if◌then◌else◌}
-use Rattle.std.specs.List.{AllByRecursion}
-use Rattle.std.proofs.lemmas.Option.{option_and_then_some}
-use Rattle.vdb_scene.specs.declared.command.Command.{Command}
+use Rattle.vdb_script.proofs.Common.{◌≡◌, ◌≢◌, ℕ, ◌+◌, ◌<◌, ◌≤◌, Bool, true, false, cond, List, [], ◌∷◌, Option, Some, None, Ok, Err, length, refl, ap, sym, ◌∙◌, arith, bytes_eq, codes, get_or, ◌⊎◌, inl, inr, option_map, option_and_then, if◌then◌else◌, AllByRecursion, option_and_then_some, Command, Literal, Num, Point, tokens, Form, ◌>>=◌, give, one, point, corners, grid_with, grid, copy, get, voxel_value, two_grids, state, fill, clip, prune, voxelise, all_of, count_box, count_all, count, bounds, census, or_else, list, slice, iterations, meta, unmeta, metas, whole, command_forms, command_of, word_of, is_comment, meaning, parse, name_of, text_of, kind_named, state_of, literal_of, accessor_of, number_of}
 use Rattle.vdb_scene.specs.declared.command.Command.TheVariants as commands
-use Rattle.vdb_scene.specs.declared.command.Literal.{Literal}
-use Rattle.vdb_scene.specs.declared.command.Num.{Num}
-use Rattle.vdb_scene.specs.declared.command.Point.{Point}
 use Rattle.vdb_scene.specs.declared.answer.Refusal.TheVariants as refusals
-use Rattle.vdb_script.specs.Lines.{tokens}
-use Rattle.vdb_script.specs.Grammar.{Form, ◌>>=◌, give, one, point, corners, grid_with, grid, drop, copy, get, voxel_value, two_grids, state, fill, clip, prune, voxelise, all_of, count_box, count_all, count, bounds, census, or_else, list, slice, iterations, meta, unmeta, metas, whole, command_forms, command_of, word_of, is_comment, meaning, parse, name_of, text_of, kind_named, state_of, literal_of, accessor_of, number_of}
+use Rattle.vdb_script.specs.Grammar.{drop}
 
 -- if a form matches, it takes this number of tokens
 pub record Takes {A : Type 0} (n : ℕ) (form : Form A) : Type 0 where

@@ -1,5 +1,6 @@
 -- Lemmas on the lines of a script, their tokens and forms, and the written answers.
 mod Checks
+mod Common
 pub mod Forms
 pub mod OneRun
 pub mod Yielding

@@ -1,21 +1,16 @@
 -- A run has one outcome if no allocation fails.
-use Rattle.std.proofs.Common.{◌≡◌, ◌≢◌, refl, sym, ap, ◌∙◌, subst, ℕ, ℤ, pos, ◌+ℤ◌, Bool, true, false, List, [], ◌∷◌, ◌++◌, Option, Some, None, Result, Ok, Err, inl, inr, IsTrue, arith}
+use Rattle.vdb_script.proofs.Common.{◌≡◌, ◌≢◌, refl, sym, ap, ◌∙◌, subst, ℕ, pos, Bool, true, false, List, [], ◌∷◌, ◌++◌, Option, Some, None, Result, Ok, Err, inl, inr, IsTrue, arith, same_Some, coord, Coord, Reply, Refused, Bounds, Scene, Command, Refusal, Scalar, Run, TakesLine, read}
+use Rattle.std.proofs.Common.{ℤ, ◌+ℤ◌}
 use Rattle.std.proofs.lemmas.Int.{ints}
-use Rattle.std.proofs.lemmas.Option.{same_Some}
-use Rattle.vdb_coord.specs.Space.{Box, coord, is_between, is_inside, is_within}
-use Rattle.vdb_coord.specs.declared.Coord.{Coord}
+use Rattle.vdb_coord.specs.Space.{Box, is_between, is_inside, is_within}
 use Rattle.vdb_coord.proofs.Boxes.{both, three}
 use Rattle.vdb_tree.specs.Field.{Field}
 use Rattle.vdb_walk.specs.Reports.{IsActiveBounds}
-use Rattle.vdb_scene.specs.Replies.{Reply, Refused, Bounds}
-use Rattle.vdb_scene.specs.Scene.{Scene, field_at}
+use Rattle.vdb_scene.specs.Scene.{field_at}
 use Rattle.vdb_scene.specs.Step.{IsReply, Step, refusal}
-use Rattle.vdb_scene.specs.declared.command.Command.{Command}
 use Rattle.vdb_scene.specs.declared.command.Command.TheVariants as commands
-use Rattle.vdb_scene.specs.declared.answer.Refusal.{Refusal}
 use Rattle.vdb_scene.specs.declared.answer.Refusal.TheVariants as refusals
-use Rattle.vdb_scene.specs.declared.scalar.Scalar.{Scalar}
-use Rattle.vdb_script.specs.Run.{NoMemoryError, Run, TakesLine, read}
+use Rattle.vdb_script.specs.Run.{NoMemoryError}
 
 -- ---- bounds
 

@@ -1,10 +1,7 @@
 -- Lemmas on texts that are composed page by page.
-use Rattle.std.proofs.Common.{◌≡◌, refl, sym, ap, ◌∙◌, subst, ℕ, List, [], ◌∷◌, ◌++◌, Option, Result, Ok, Err, map, flat_map, append_assoc, append-nil}
-use Rattle.std.specs.List.{join_with_byte}
-use Rattle.std.specs.Io.KnownBytes.{Appends}
+use Rattle.vdb_script.proofs.Common.{◌≡◌, refl, sym, ap, ◌∙◌, subst, ℕ, List, [], ◌∷◌, ◌++◌, Option, Result, Ok, Err, map, flat_map, append_assoc, append-nil, join_with_byte, Appends, Adds, HasAdded, HasCut, WriteFault}
 use Rattle.std.proofs.KnownBytes.{Appends-trans}
-use Rattle.vdb_script.specs.Writing.{Adds, HasAdded, HasCut, Writes}
-use Rattle.vdb_script.specs.declared.output.WriteFault.{WriteFault}
+use Rattle.vdb_script.specs.Writing.{Writes}
 
 module _ (a b : Option (List ℕ)) where
   -- a fault at a part is a fault before everything that would follow

@@ -1,10 +1,7 @@
 -- The line of a row of a slice in parts: its head, its cells and its end.
-use Rattle.std.proofs.Common.{◌≡◌, sym, ap, ◌∙◌, subst, ℕ, List, [], ◌∷◌, ◌++◌, Option, Result, codes, flat_map, append_assoc}
+use Rattle.vdb_script.proofs.Common.{◌≡◌, sym, ap, ◌∙◌, subst, ℕ, List, [], ◌∷◌, ◌++◌, Option, Result, codes, flat_map, append_assoc, cell_text, row_line, Adds, HasAdded, HasCut, WriteFault}
 use Rattle.std.specs.Fmt.{signed_decimal}
 use Rattle.vdb_scene.specs.Replies.{Row}
-use Rattle.vdb_script.specs.Text.{cell_text, row_line}
-use Rattle.vdb_script.specs.Writing.{Adds, HasAdded, HasCut}
-use Rattle.vdb_script.specs.declared.output.WriteFault.{WriteFault}
 use Rattle.vdb_script.proofs.Pages.{adds_more, cut_before, cut_later, line_parts, spaced_map}
 
 abbrev pub head : Row → List ℕ

@@ -1,19 +1,9 @@
 -- The names, keys and texts that the command of a line stores have their forms.
-use Rattle.std.proofs.Common.{◌≡◌, refl, ap, subst, ℕ, Bool, true, false, cond, List, [], ◌∷◌, Option, Some, None, Result, Ok, Err, ◌⊎◌, inl, inr, bytes_eq}
-use Rattle.std.specs.Prelude.{option_map, option_and_then, if◌then◌else◌}
-use Rattle.std.specs.List.{AllByRecursion}
-use Rattle.std.proofs.lemmas.Option.{none-some, option_and_then_some, same_Some}
+use Rattle.vdb_script.proofs.Common.{◌≡◌, refl, ap, subst, ℕ, Bool, true, false, cond, List, [], ◌∷◌, Option, Some, None, Result, Ok, Err, ◌⊎◌, inl, inr, bytes_eq, option_map, option_and_then, if◌then◌else◌, AllByRecursion, none-some, option_and_then_some, same_Some, HasValidTexts, Command, Literal, Num, Point, Refusal, tokens, Form, ◌>>=◌, give, one, grid_with, grid, copy, get, voxel_value, two_grids, state, fill, clip, prune, voxelise, count_box, count_all, count, bounds, census, or_else, list, slice, iterations, meta, unmeta, metas, whole, command_forms, command_of, word_of, is_comment, meaning, parse, name_of, text_of, kind_named, state_of, literal_of, accessor_of, number_of, all_of, point, corners}
 use Rattle.vdb_scene.specs.Metas.{is_text}
 use Rattle.vdb_scene.specs.Names.{is_name}
-use Rattle.vdb_scene.specs.ValidScenes.{HasValidTexts}
-use Rattle.vdb_scene.specs.declared.command.Command.{Command}
 use Rattle.vdb_scene.specs.declared.command.Command.TheVariants as commands
-use Rattle.vdb_scene.specs.declared.command.Literal.{Literal}
-use Rattle.vdb_scene.specs.declared.command.Num.{Num}
-use Rattle.vdb_scene.specs.declared.command.Point.{Point}
-use Rattle.vdb_scene.specs.declared.answer.Refusal.{Refusal}
-use Rattle.vdb_script.specs.Lines.{tokens}
-use Rattle.vdb_script.specs.Grammar.{Form, ◌>>=◌, give, one, grid_with, grid, drop, copy, get, voxel_value, two_grids, state, fill, clip, prune, voxelise, count_box, count_all, count, bounds, census, or_else, list, slice, iterations, meta, unmeta, metas, whole, command_forms, command_of, word_of, is_comment, meaning, parse, name_of, text_of, kind_named, state_of, literal_of, accessor_of, number_of, all_of, point, corners}
+use Rattle.vdb_script.specs.Grammar.{drop}
 
 -- ---- forms
 

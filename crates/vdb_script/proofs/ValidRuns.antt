@@ -1,16 +1,8 @@
 -- A run that begins with a scene that files encode ends with one.
-use Rattle.std.proofs.Common.{◌≡◌, refl, sym, ap, subst, ℕ, Bool, true, false, nat_lt, List, [], ◌∷◌, length, Option, Some, None, Result, Ok, Err}
-use Rattle.std.specs.Prelude.{if◌then◌else◌}
-use Rattle.std.proofs.lemmas.Option.{none-some}
-use Rattle.vdb_scene.specs.Replies.{Reply}
-use Rattle.vdb_scene.specs.Scene.{Scene}
-use Rattle.vdb_scene.specs.ValidScenes.{HasValidTexts, IsScene}
-use Rattle.vdb_scene.specs.declared.command.Command.{Command}
-use Rattle.vdb_scene.specs.declared.answer.Refusal.{Refusal}
+use Rattle.vdb_script.proofs.Common.{◌≡◌, refl, sym, ap, subst, ℕ, Bool, true, false, nat_lt, List, [], ◌∷◌, length, Option, Some, None, Result, Ok, Err, if◌then◌else◌, none-some, Reply, Scene, HasValidTexts, Command, Refusal, parse, Run, TakesLine, read}
+use Rattle.vdb_scene.specs.ValidScenes.{IsScene}
 use Rattle.vdb_scene.specs.declared.answer.Refusal.TheVariants as refusals
 use Rattle.vdb_scene.proofs.ValidSteps.{step_is}
-use Rattle.vdb_script.specs.Grammar.{parse}
-use Rattle.vdb_script.specs.Run.{Run, TakesLine, read}
 use Rattle.vdb_script.proofs.ValidCommands.{command_in, parsed_valid}
 
 within : (long : Bool) (line : List ℕ) (c : Command) → (if long then Err refusals.LineTooLong else parse line) ≡ Ok (Some c) → HasValidTexts c

@@ -1,9 +1,8 @@
 -- Lemmas on lines that are composed, and written in several calls.
-use Rattle.std.proofs.Common.{◌≡◌, ℕ, suc, zero, ◌+◌, ◌-◌, ◌<◌, ◌≤◌, ◌==◌, if◌then◌else◌, List, [], ◌∷◌, ◌++◌, Option, refl, sym, ap, ◌∙◌, subst, length, map, take, drop, get_or, add-one, arith, append_assoc, append-nil, take-append-drop, length-append, length-drop, slice_range, take_all}
+use Rattle.vdb_script.proofs.Common.{◌≡◌, ℕ, suc, zero, ◌+◌, ◌-◌, ◌<◌, ◌≤◌, ◌==◌, if◌then◌else◌, List, [], ◌∷◌, ◌++◌, Option, refl, sym, ap, ◌∙◌, subst, length, map, take, drop, get_or, add-one, arith, append_assoc, append-nil, length-append, length-map, join_with_byte, Appends}
+use Rattle.std.proofs.Common.{take-append-drop, length-drop, slice_range, take_all}
 use Rattle.std.proofs.lemmas.Bool.{ne_eqb}
-use Rattle.std.proofs.lemmas.List.{get_or-map, length-map}
-use Rattle.std.specs.List.{join_with_byte}
-use Rattle.std.specs.Io.KnownBytes.{Appends}
+use Rattle.std.proofs.lemmas.List.{get_or-map}
 use Rattle.std.proofs.KnownBytes.{Appends-trans}
 use Rattle.vdb_script.specs.Text.{line}
 use lib.Seq.{take-add}

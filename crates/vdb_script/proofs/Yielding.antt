@@ -1,8 +1,6 @@
 -- Items that a listing yields.
-use Rattle.std.proofs.Common.{◌≡◌, ◌≢◌, refl, sym, ap, ◌∙◌, ℕ, zero, suc, ◌<◌, ◌≤◌, Bool, true, false, List, [], ◌∷◌, Some, None, ◌⊎◌, inl, inr, length, take, drop, IsTrue, arith}
-use Rattle.std.specs.Prelude.{nat_lt}
+use Rattle.vdb_script.proofs.Common.{◌≡◌, ◌≢◌, refl, sym, ap, ◌∙◌, ℕ, zero, suc, ◌<◌, ◌≤◌, Bool, true, false, List, [], ◌∷◌, Some, None, ◌⊎◌, inl, inr, length, take, drop, IsTrue, arith, nat_lt, Coord}
 use Rattle.std.proofs.lemmas.Bool.{le-ltb, lt-ltb}
-use Rattle.vdb_coord.specs.declared.Coord.{Coord}
 use Rattle.vdb_walk.specs.Reports.{Yields, Listed}
 
 either : (n m : ℕ) → (n < m) ⊎ (m ≤ n)

@@ -1,21 +1,15 @@
 -- A script as a whole run with its text, and a write fault in the second answer after the first was written.
-use Rattle.std.proofs.Common.{◌≡◌, refl, ℕ, pos, false, List, [], ◌∷◌, Some, codes, inl, inr, arith, None}
+use Rattle.vdb_shell.proofs.Common.{◌≡◌, refl, ℕ, false, List, [], ◌∷◌, Some, codes, inl, inr, arith, None, Scene, Reply, Refused, lines, NoMemoryError, Run, answers_text, IsUndisturbed, Plays, Answers}
+use Rattle.std.proofs.Common.{pos}
 use Rattle.std.specs.Fmt.{digits}
 use Rattle.vdb_value.specs.declared.Kind.TheVariants as kinds
-use Rattle.vdb_scene.specs.Scene.{Scene}
-use Rattle.vdb_scene.specs.Replies.{Reply, Done, Pairs, Refused, Value}
+use Rattle.vdb_scene.specs.Replies.{Done, Pairs, Value}
 use Rattle.vdb_scene.specs.Step.{after}
 use Rattle.vdb_scene.specs.declared.scalar.Scalar.TheVariants.{I32}
 use Rattle.vdb_scene.specs.declared.answer.Refusal.TheVariants as refusals
 use Rattle.vdb_scene.specs.declared.command.Command.TheVariants as commands
 use Rattle.vdb_scene.specs.declared.command.Literal.TheVariants.{Number}
 use Rattle.vdb_scene.specs.declared.command.Num.TheVariants.{Near}
-use Rattle.vdb_script.specs.Lines.{lines}
-use Rattle.vdb_script.specs.Run.{NoMemoryError, Run}
-use Rattle.vdb_script.specs.Text.{answers_text}
-use Rattle.vdb_shell.specs.Determined.{IsUndisturbed}
-use Rattle.vdb_shell.specs.Session.{Plays}
-use Rattle.vdb_shell.specs.declared.fault.Fault.TheVariants.{Answers}
 
 abbrev script : List ℕ
 script = codes "grid a i32 0\nget a - 5 5 5\n"

@@ -1,9 +1,8 @@
 -- The meaning of a command line of given words: the files that they name, or the one fault that they have.
-use Rattle.std.proofs.Common.{◌≡◌, refl, List, [], ◌∷◌, Option, Some, None, codes}
-use Rattle.clap.specs.Words.{Kinds, Text, fault_of}
+use Rattle.vdb_shell.proofs.Common.{◌≡◌, refl, List, [], ◌∷◌, Option, Some, None, codes, Text, fault_of, given, program}
+use Rattle.clap.specs.Words.{Kinds}
 use Rattle.clap.specs.declared.error.kind.ErrorKind.TheVariants as kinds
 use Rattle.clap.proofs.OnLiterals.{clap_on_literals}
-use Rattle.vdb_shell.specs.CommandLine.{given, program}
 
 -- the words name this scene file to load, this one to save and this script, and have no fault
 abbrev Names : List Text → Option Text → Option Text → Option Text → Type 0

@@ -1,25 +1,16 @@
 -- The step of a line that was read.
-use Rattle.std.proofs.Common.{◌≡◌, refl, sym, ap, ◌∙◌, subst, ℕ, ◌<◌, Bool, true, false, ◌||◌, List, [], ◌∷◌, length, cond, Option, Some, Result, Ok, Err, arith, append-nil}
+use Rattle.vdb_shell.proofs.Common.{◌≡◌, refl, sym, ap, ◌∙◌, subst, ℕ, ◌<◌, Bool, true, false, ◌||◌, List, [], ◌∷◌, length, cond, Option, Some, Result, Ok, Err, arith, append-nil, Appends, Scene, Reply, Refused, TakesLine, read, text, WriteFault, GoesOut, TakesTurn, is_refused, Turn}
 use Rattle.std.specs.Prelude.{nat_lt}
-use Rattle.std.specs.Io.KnownBytes.{Appends}
 use Rattle.std.proofs.lemmas.Bool.Decides.{nat_tests}
 use Rattle.vdb_scene.specs.Doing.{ShowsStep}
-use Rattle.vdb_scene.specs.Scene.{Scene}
 use Rattle.vdb_scene.specs.Shown.{Shows}
-use Rattle.vdb_scene.specs.Replies.{Reply, Refused}
 use Rattle.vdb_scene.specs.declared.answer.Answer.{Answer}
 use Rattle.vdb_scene.specs.declared.answer.Answer.TheVariants as answers
 use Rattle.vdb_scene.specs.declared.answer.Refusal.{Refusal}
 use Rattle.vdb_scene.specs.declared.answer.Refusal.TheVariants as refusals
 use Rattle.vdb_scene.specs.declared.command.Command.{Command}
 use Rattle.vdb_script.specs.Grammar.{parse}
-use Rattle.vdb_script.specs.Run.{TakesLine, read}
-use Rattle.vdb_script.specs.Text.{text}
 use Rattle.vdb_script.specs.Writing.{Writes}
-use Rattle.vdb_script.specs.declared.output.WriteFault.{WriteFault}
-use Rattle.vdb_shell.specs.internal.Answering.{GoesOut, TakesTurn}
-use Rattle.vdb_shell.specs.Session.{is_refused}
-use Rattle.vdb_shell.specs.declared.playing.Turn.{Turn}
 
 -- a line that isn't too long is read by the grammar
 read_short : (line : List ℕ) → length line < 257 → read line ≡ parse line

@@ -1,24 +1,10 @@
 -- Sessions of the same bytes have the same outcome, if no allocation, reader or writer fails.
-use Rattle.std.proofs.Common.{◌≡◌, refl, sym, ap, ◌∙◌, subst, ℕ, ◌^◌, Bool, List, [], ◌++◌, length, take, Option, Some, None, ◌⊎◌, inl, inr, arith}
-use Rattle.std.specs.List.{list_any}
-use Rattle.std.specs.Io.KnownBytes.{Appends, Keeps}
-use Rattle.vdb_scene.specs.Scene.{Scene}
-use Rattle.vdb_scene.specs.Replies.{Reply}
-use Rattle.vdb_scene.specs.ValidScenes.{IsScene}
-use Rattle.vdb_file.specs.Spelling.{IsFileOf}
-use Rattle.vdb_file.specs.declared.fault.LoadFault.{LoadFault}
-use Rattle.vdb_file.specs.declared.fault.SaveFault.{SaveFault}
+use Rattle.vdb_shell.proofs.Common.{◌≡◌, refl, sym, ap, ◌∙◌, subst, ℕ, ◌^◌, Bool, List, [], ◌++◌, length, take, Option, Some, None, inl, inr, arith, list_any, Appends, Keeps, Scene, Reply, IsScene, IsFileOf, LoadFault, SaveFault, lines, whole_lines, NoMemoryError, Run, answers_text, IsUndisturbed, Begins, IsSession, IsUnloaded, Plays, PlaysOn, Saves, is_refused, of_script, status, Fault, Load, Script, Answers, Save}
+use Rattle.std.proofs.Common.{◌⊎◌}
 use Rattle.vdb_file.specs.declared.fault.SaveFault.TheVariants as save_faults
-use Rattle.vdb_script.specs.Lines.{lines, whole_lines}
-use Rattle.vdb_script.specs.Run.{NoMemoryError, Run}
-use Rattle.vdb_script.specs.Text.{answers_text}
 use Rattle.vdb_script.specs.declared.source.ScriptFault.TheVariants as script_faults
 use Rattle.vdb_script.proofs.OneRun.{one_run}
-use Rattle.vdb_shell.specs.Determined.{End, IsOfBytes, IsUndisturbed, replies_of}
-use Rattle.vdb_shell.specs.Files.{Begins}
-use Rattle.vdb_shell.specs.Session.{IsSession, IsUnloaded, Plays, PlaysOn, Saves, is_refused, of_script, status}
-use Rattle.vdb_shell.specs.declared.fault.Fault.{Fault}
-use Rattle.vdb_shell.specs.declared.fault.Fault.TheVariants.{Load, Script, Answers, Save}
+use Rattle.vdb_shell.specs.Determined.{End, IsOfBytes, replies_of}
 
 -- ---- loading
 

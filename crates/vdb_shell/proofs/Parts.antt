@@ -1,20 +1,11 @@
 -- The parts of a session: loading before its script, and saving after it.
-use Rattle.std.proofs.Common.{◌≡◌, ◌∙◌, refl, sym, ap, subst, arith, ℕ, ◌≤◌, Bool, true, false, is_some, List, [], Option, Some, None, option_map, IfSome, IfOk, IfErr, Result, Ok, Err}
+use Rattle.vdb_shell.proofs.Common.{◌≡◌, ◌∙◌, refl, sym, ap, subst, arith, ℕ, ◌≤◌, Bool, true, false, List, [], Option, Some, None, Result, Ok, Err, Keeps, scene_of, Scene, IsScene, IsFileOf, LoadFault, SaveFault, Begins, IsSession, IsUnloaded, PlaysFrom, PlaysOn, Saves, of_script, status, Fault, Answers, Load, Save, Script}
+use Rattle.std.proofs.Common.{is_some, option_map, IfSome, IfOk, IfErr}
 use Rattle.std.proofs.lemmas.Option.{same_Some}
-use Rattle.std.specs.Io.KnownBytes.{Keeps}
-use Rattle.vdb_scene.specs.Grids.{scene_of}
-use Rattle.vdb_scene.specs.Scene.{Scene}
 use Rattle.vdb_scene.specs.declared.scene.Scene as loaded
 use Rattle.vdb_file.specs.Faults.{Claims}
-use Rattle.vdb_scene.specs.ValidScenes.{IsScene}
-use Rattle.vdb_file.specs.Spelling.{IsFileOf}
-use Rattle.vdb_file.specs.declared.fault.LoadFault.{LoadFault}
-use Rattle.vdb_file.specs.declared.fault.SaveFault.{SaveFault}
 use Rattle.vdb_file.proofs.Scenes.{one_scene}
-use Rattle.vdb_shell.specs.Files.{Begins, Refuses}
-use Rattle.vdb_shell.specs.Session.{IsSession, IsUnloaded, PlaysFrom, PlaysOn, Saves, of_script, status}
-use Rattle.vdb_shell.specs.declared.fault.Fault.{Fault}
-use Rattle.vdb_shell.specs.declared.fault.Fault.TheVariants.{Answers, Load, Save, Script}
+use Rattle.vdb_shell.specs.Files.{Refuses}
 
 -- ---- before the script
 

@@ -1,18 +1,9 @@
 -- A script that is played line by line: the yielded part so far, and its outcome at each end.
-use Rattle.std.proofs.Common.{◌≡◌, refl, sym, ap, ◌∙◌, subst, ℕ, ◌+◌, ◌^◌, ◌<◌, ◌≤◌, Bool, true, false, ◌||◌, List, [], ◌∷◌, ◌++◌, length, take, Option, Some, None, arith, append_assoc, append-nil, length-append}
-use Rattle.std.specs.List.{list_any}
-use Rattle.std.specs.Io.KnownBytes.{Consumes, IsAtEnd, prepend_known}
+use Rattle.vdb_shell.proofs.Common.{◌≡◌, refl, sym, ap, ◌∙◌, subst, ℕ, ◌+◌, ◌^◌, ◌<◌, ◌≤◌, Bool, true, false, ◌||◌, List, [], ◌∷◌, ◌++◌, length, take, Option, Some, None, arith, append_assoc, append-nil, length-append, list_any, Consumes, prepend_known, take-append_seam, Scene, Reply, lines, script_lines, whole_lines, YieldsLine, YieldsPart, YieldsTooMuch, Stock, budget, line_end, Run, TakesLine, read, answers_text, text, PlaysFrom, is_refused, Script, Answers}
+use Rattle.std.specs.Io.KnownBytes.{IsAtEnd}
 use Rattle.std.proofs.KnownBytes.{Consumes-trans}
-use Rattle.std.proofs.Math.Seq.{take-append_seam}
-use Rattle.vdb_scene.specs.Scene.{Scene}
-use Rattle.vdb_scene.specs.Replies.{Reply}
-use Rattle.vdb_script.specs.Lines.{lines, script_lines, whole_lines}
-use Rattle.vdb_script.specs.Reading.{YieldsLine, YieldsPart, YieldsTooMuch, Stock, budget, line_end}
-use Rattle.vdb_script.specs.Run.{Run, TakesLine, read}
-use Rattle.vdb_script.specs.Text.{answers_text, text}
 use Rattle.vdb_script.specs.declared.source.ScriptFault.TheVariants as script_faults
-use Rattle.vdb_shell.specs.Session.{IsPrefixOf, PlaysFrom, is_refused}
-use Rattle.vdb_shell.specs.declared.fault.Fault.TheVariants.{Script, Answers}
+use Rattle.vdb_shell.specs.Session.{IsPrefixOf}
 use Rattle.vdb_shell.proofs.Prefixes.{HasLines, begins_with, has_at_least, has_more, has_none, has_whole}
 
 -- ---- runs

@@ -1,21 +1,12 @@
 -- One step of playing a script: a line whose answer was written, and a line whose answer was not.
-use Rattle.std.proofs.Common.{◌≡◌, refl, sym, ap, ◌∙◌, subst, ℕ, Bool, true, false, ◌||◌, is_err, List, [], ◌∷◌, ◌++◌, ◌^◌, ◌+◌, Option, Some, Result, Ok, Err}
-use Rattle.std.specs.Io.KnownBytes.{Appends, Consumes, prepend_known}
-use Rattle.std.proofs.KnownBytes.{Appends-nil, Appends-trans}
+use Rattle.vdb_shell.proofs.Common.{◌≡◌, refl, sym, ap, ◌∙◌, subst, ℕ, Bool, true, false, ◌||◌, List, [], ◌∷◌, ◌++◌, ◌^◌, ◌+◌, Option, Some, Result, Ok, Err, Appends, Consumes, prepend_known, Appends-nil, Scene, Reply, YieldsLine, YieldsPart, YieldsTooMuch, Stock, budget, answers_text, text, WriteFault, GoesOut, TakesTurn, PlaysFrom, Fault, Turn, Answers, Script}
+use Rattle.std.proofs.Common.{is_err}
+use Rattle.std.proofs.KnownBytes.{Appends-trans}
 use Rattle.std.proofs.lemmas.Grind.{flat_map-append}
-use Rattle.vdb_scene.specs.Scene.{Scene}
-use Rattle.vdb_scene.specs.Replies.{Reply}
-use Rattle.vdb_script.specs.Reading.{YieldsLine, YieldsPart, YieldsTooMuch, Stock, budget}
-use Rattle.vdb_script.specs.Text.{answers_text, text}
 use Rattle.vdb_script.specs.Writing.{HasCut}
-use Rattle.vdb_script.specs.declared.output.WriteFault.{WriteFault}
 use Rattle.vdb_script.specs.declared.source.ScriptFault.{ScriptFault}
 use Rattle.vdb_script.specs.declared.source.ScriptFault.TheVariants.{Read, TooLong}
-use Rattle.vdb_shell.specs.internal.Answering.{GoesOut, TakesTurn, is_read_ending}
-use Rattle.vdb_shell.specs.Session.{PlaysFrom}
-use Rattle.vdb_shell.specs.declared.fault.Fault.{Fault}
-use Rattle.vdb_shell.specs.declared.playing.Turn.{Turn}
-use Rattle.vdb_shell.specs.declared.fault.Fault.TheVariants.{Answers, Script}
+use Rattle.vdb_shell.specs.internal.Answering.{is_read_ending}
 use Rattle.vdb_shell.proofs.Told.{Handed, handed_line, handed_none, played_cut, played_part, played_too_long}
 
 -- without a fault the whole answer is written

@@ -1,16 +1,8 @@
 -- A session that loads its scene ends with a scene that files encode.
-use Rattle.std.proofs.Common.{sym, subst, ℕ, ◌^◌, List, take, Option, Some, None}
-use Rattle.vdb_scene.specs.Replies.{Reply}
-use Rattle.vdb_scene.specs.Scene.{Scene}
-use Rattle.vdb_scene.specs.ValidScenes.{IsScene}
+use Rattle.vdb_shell.proofs.Common.{sym, subst, ℕ, ◌^◌, List, take, Option, Some, None, Reply, Scene, IsScene, lines, script_lines, whole_lines, Begins, IsSession, IsUnloaded, Plays, PlaysOn, of_script, Fault, Load, Script, Answers, Save}
 use Rattle.vdb_scene.proofs.ValidSteps.{empty_is}
-use Rattle.vdb_script.specs.Lines.{lines, script_lines, whole_lines}
 use Rattle.vdb_script.specs.declared.source.ScriptFault.TheVariants as script_faults
 use Rattle.vdb_script.proofs.ValidRuns.{run_is}
-use Rattle.vdb_shell.specs.Files.{Begins}
-use Rattle.vdb_shell.specs.Session.{IsSession, IsUnloaded, Plays, PlaysOn, of_script}
-use Rattle.vdb_shell.specs.declared.fault.Fault.{Fault}
-use Rattle.vdb_shell.specs.declared.fault.Fault.TheVariants.{Load, Script, Answers, Save}
 
 begun_is : (file : Option (List ℕ)) (s : Scene) → Begins file s → IsScene s
 begun_is None s h = subst IsScene (sym h) empty_is

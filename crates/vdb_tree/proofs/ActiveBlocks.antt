@@ -1,27 +1,6 @@
 -- Tests whether a block has an active voxel, entry by entry.
-use Rattle.std.proofs.Common.{◌≡◌, inl, inr, ℕ, ◌+◌, ◌<◌, Bool, true, false, List, [], ◌∷◌, length, arith, refl, sym, ap, subst, ◌∙◌, IsTrue}
-use Rattle.std.specs.List.{count_by, filter}
-use Rattle.std.specs.Set.{is_member}
-use Rattle.std.proofs.lemmas.List.Sums.{length-filter}
-use Rattle.vdb_coord.specs.Blocks.{block_around, block_number, entries, offset}
-use Rattle.vdb_coord.specs.Entries.{AreBits}
-use Rattle.vdb_coord.specs.Space.{Box, coord_eq, coordinates, everywhere, is_inside}
-use Rattle.vdb_coord.specs.declared.Bits.{Bits}
-use Rattle.vdb_coord.specs.declared.Coord.{Coord}
-use Rattle.vdb_coord.specs.declared.Level.{Level}
-use Rattle.vdb_coord.specs.declared.Level.TheVariants.{Leaf, Lower, Upper}
-use Rattle.vdb_coord.proofs.Boxes.{both, not_true}
-use Rattle.vdb_coord.proofs.CountBounds.{count_at_least, member_passing}
-use Rattle.vdb_coord.proofs.InRange.{block_in_range}
-use Rattle.vdb_coord.proofs.Members.{coord_equiv, coord_exact}
-use Rattle.vdb_coord.proofs.Nesting.{inside_numbered, leaf_from_lower, lower_from_leaf, lower_from_upper, number_in_block, upper_from_lower}
-use Rattle.vdb_coord.proofs.Positions.{offset_below}
-use Rattle.vdb_node.specs.declared.Entry.TheVariants.{Tile}
-use Rattle.vdb_value.specs.declared.Cell.{Cell}
-use Rattle.vdb_tree.specs.internal.Active.{HasActive, IsInactive, IsInactiveAt, IsInactiveFrom}
-use Rattle.vdb_tree.specs.ConstantBlocks.{count}
-use Rattle.vdb_tree.specs.Field.{Field}
-use Rattle.vdb_tree.specs.Layout.{Layout, cell_at, entry_over, field_of}
+use Rattle.vdb_tree.proofs.Common.{◌≡◌, inl, inr, ℕ, ◌+◌, ◌<◌, Bool, true, false, List, [], ◌∷◌, length, arith, refl, sym, ap, subst, ◌∙◌, IsTrue, count_by, filter, is_member, length-filter, block_around, block_number, entries, offset, AreBits, Box, coord_eq, coordinates, everywhere, is_inside, Bits, Coord, Level, Leaf, Lower, Upper, both, not_true, count_at_least, member_passing, block_in_range, coord_equiv, coord_exact, inside_numbered, leaf_from_lower, lower_from_leaf, lower_from_upper, number_in_block, upper_from_lower, offset_below, Tile, Cell, HasActive, IsInactive, IsInactiveFrom, count, Field, Layout, cell_at, entry_over, field_of}
+use Rattle.vdb_tree.specs.internal.Active.{IsInactiveAt}
 use Rattle.vdb_tree.proofs.Blocks.{never}
 use Rattle.vdb_tree.proofs.Fields.{cell_inside}
 use Rattle.vdb_tree.proofs.Needed.{tile_block}

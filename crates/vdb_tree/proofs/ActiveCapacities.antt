@@ -1,30 +1,6 @@
 -- Entries for the active upper extents of another tree: the union counted in upper extents, and walks over the other tree's keys.
-use Rattle.std.proofs.Common.{◌≡◌, ◌≢◌, ◌⊎◌, inl, inr, ℕ, ◌+◌, ◌-◌, ◌<◌, ◌≤◌, Bool, true, false, ◌||◌, List, ◌∷◌, length, refl, sym, ap, subst, ◌∙◌, arith, IsTrue}
-use Rattle.std.specs.Prelude.{IsSome, Option, Some, None}
-use Rattle.std.specs.List.{IsDistinct}
-use Rattle.std.specs.Map.{keys_of}
-use Rattle.std.specs.Set.{is_member}
-use Rattle.std.proofs.lemmas.Map.Entries.{length-keys_of}
-use Rattle.vdb_coord.specs.Blocks.{block, block_number, block_numbers, key}
-use Rattle.vdb_coord.specs.Entries.{AreBits}
-use Rattle.vdb_coord.specs.Space.{coord_eq, everywhere, is_inside}
-use Rattle.vdb_coord.specs.declared.Bits.{Bits}
-use Rattle.vdb_coord.specs.declared.Coord.{Coord}
-use Rattle.vdb_coord.specs.declared.Level.TheVariants.{Upper}
-use Rattle.vdb_coord.proofs.BlockOrder.{less_apart}
-use Rattle.vdb_coord.proofs.Boxes.{not_true}
-use Rattle.vdb_coord.proofs.InRange.{block_in_range, number_of_corner}
-use Rattle.vdb_coord.proofs.Members.{coord_equiv, coord_exact}
-use Rattle.vdb_value.specs.declared.Cell.{Cell}
-use Rattle.vdb_tree.specs.internal.Active.{HasActive, IsInactive}
-use Rattle.vdb_tree.specs.internal.ActiveCapacity.{HasCapacityForActive, IsActiveKey, LacksCapacityForActive}
-use Rattle.vdb_tree.specs.Changes.{IsSwept, Keeps}
-use Rattle.vdb_tree.specs.ConstantBlocks.{is_background, roots}
-use Rattle.vdb_tree.specs.Field.{Field, unite}
-use Rattle.vdb_tree.specs.Layout.{Layout, background_cell, cell_at, field_of, root_at}
-use Rattle.vdb_tree.specs.Nodes.{MakesNoNode}
-use Rattle.vdb_tree.specs.Sound.{IsSound}
-use Rattle.vdb_tree.specs.Table.{HasCapacity, IsNextKey, IsPast}
+use Rattle.vdb_tree.proofs.Common.{◌≡◌, ◌≢◌, ◌⊎◌, inl, inr, ℕ, ◌+◌, ◌-◌, ◌<◌, ◌≤◌, Bool, true, false, ◌||◌, List, ◌∷◌, length, refl, sym, ap, subst, ◌∙◌, arith, IsTrue, IsSome, Option, Some, None, IsDistinct, keys_of, is_member, length-keys_of, block, block_number, block_numbers, key, AreBits, coord_eq, everywhere, is_inside, Bits, Coord, Upper, less_apart, not_true, block_in_range, number_of_corner, coord_equiv, coord_exact, Cell, HasActive, IsInactive, HasCapacityForActive, IsActiveKey, IsSwept, Keeps, is_background, roots, Field, unite, Layout, background_cell, cell_at, field_of, root_at, MakesNoNode, IsSound, HasCapacity, IsNextKey, IsPast}
+use Rattle.vdb_tree.specs.internal.ActiveCapacity.{LacksCapacityForActive}
 use Rattle.vdb_tree.proofs.Blocks.{never, uniform_block, uniform_block_from}
 use Rattle.vdb_tree.proofs.Capacities.{capacity_from, entered_still, in_root}
 use Rattle.vdb_tree.proofs.Fields.{cell_inside}

@@ -1,38 +1,15 @@
 -- The active voxels of a block, counted entry by entry.
-use Rattle.std.proofs.Common.{◌≡◌, ◌⊎◌, inl, inr, sym, ap, ◌∙◌, refl, ℕ, ◌+◌, ◌<◌, ◌≤◌, ◌^◌, Bool, true, false, not, ◌&&◌, ltb, List, [], length, arith, IsTrue, Option, Some, None}
-use Rattle.std.specs.Prelude.{slice_index_or}
-use Rattle.std.specs.List.{IsDistinct, count_by, filter}
-use Rattle.std.specs.Set.{is_member}
+use Rattle.vdb_tree.proofs.Common.{◌≡◌, ◌⊎◌, inl, inr, sym, ap, ◌∙◌, refl, ℕ, ◌+◌, ◌<◌, ◌≤◌, ◌^◌, Bool, true, false, not, ◌&&◌, List, [], length, arith, IsTrue, Option, Some, None, slice_index_or, count_by, filter, is_member, length-filter, length-le_from_is_member, block_around, block_number, entries, node_bits, offset, sub_block, AreBits, Box, coord_eq, coordinates, everywhere, is_inside, volume, Bits, Coord, Level, Leaf, Lower, Upper, not_true, member_passing, count_by_members, distinct_filter, distinct_coordinates, block_in_range, coord_equiv, coord_exact, entry_holds, in_entry, inside_numbered, number_in_block, entries_is, offset_below, IsFirstWithout, IsInactiveTile, entry_count, Entry, Tile, Cell, IsInactiveFrom, IsNextActive, IsConstantBlock, Field, Layout, cell_at, field_of, count}
+use Rattle.std.proofs.Common.{ltb}
+use Rattle.std.specs.List.{IsDistinct}
 use Rattle.std.proofs.lemmas.Bool.{lt-ltb, ltb-true}
 use Rattle.std.proofs.lemmas.List.Filters.{length-filter_both}
-use Rattle.std.proofs.lemmas.List.Sums.{count_by-le-length, length-filter}
-use Rattle.std.proofs.lemmas.Map.Made.{is_member-filter, length-from_same_keys, length-le_from_is_member}
-use Rattle.vdb_coord.specs.Blocks.{block as block_at, block_around, block_number, entries, node_bits, offset, sub_block}
-use Rattle.vdb_coord.specs.Entries.{AreBits}
-use Rattle.vdb_coord.specs.Space.{Box, coord_eq, coordinates, everywhere, is_inside, volume}
-use Rattle.vdb_coord.specs.declared.Bits.{Bits}
-use Rattle.vdb_coord.specs.declared.Coord.{Coord}
-use Rattle.vdb_coord.specs.declared.Level.{Level}
-use Rattle.vdb_coord.specs.declared.Level.TheVariants.{Leaf, Lower, Upper}
-use Rattle.vdb_coord.proofs.Boxes.{not_true}
-use Rattle.vdb_coord.proofs.CountBounds.{member_passing}
-use Rattle.vdb_coord.proofs.Counts.{count_by_members, distinct_filter}
-use Rattle.vdb_coord.proofs.Distinct.{distinct_coordinates}
-use Rattle.vdb_coord.proofs.InRange.{block_in_range}
-use Rattle.vdb_coord.proofs.Members.{coord_equiv, coord_exact, member_coordinates}
-use Rattle.vdb_coord.proofs.Nesting.{entry_holds, in_entry, inside_numbered, leaf_block_at_offset, lower_block_at_offset, number_in_block}
-use Rattle.vdb_coord.proofs.Positions.{entries_is, offset_below}
+use Rattle.std.proofs.lemmas.List.Sums.{count_by-le-length}
+use Rattle.std.proofs.lemmas.Map.Made.{is_member-filter, length-from_same_keys}
+use Rattle.vdb_coord.specs.Blocks.{block as block_at}
+use Rattle.vdb_coord.proofs.Members.{member_coordinates}
+use Rattle.vdb_coord.proofs.Nesting.{leaf_block_at_offset, lower_block_at_offset}
 use Rattle.vdb_coord.proofs.Volume.{length_coordinates}
-use Rattle.vdb_node.specs.Entries.{IsFirstWithout, IsInactiveTile}
-use Rattle.vdb_node.specs.Nodes.{entry_count}
-use Rattle.vdb_node.specs.declared.Entry.{Entry}
-use Rattle.vdb_node.specs.declared.Entry.TheVariants.{Tile}
-use Rattle.vdb_value.specs.declared.Cell.{Cell}
-use Rattle.vdb_tree.specs.internal.Active.{IsInactiveFrom, IsNextActive}
-use Rattle.vdb_tree.specs.Changes.{IsConstantBlock}
-use Rattle.vdb_tree.specs.Field.{Field}
-use Rattle.vdb_tree.specs.Layout.{Layout, cell_at, field_of}
-use Rattle.vdb_tree.specs.ConstantBlocks.{count}
 use Rattle.vdb_tree.proofs.Fields.{cell_inside}
 
 -- ---- any test

@@ -1,21 +1,10 @@
 -- Operations, blocks and outcomes before and after each value of a field is mapped.
-use Rattle.std.proofs.Common.{refl, ◌≡◌, ap, sym, subst, ◌∙◌, Bool, true, false, cond, not, ◌&&◌, ℕ, ◌<◌, ◌≤◌, Result, Ok, Err, filter, length}
+use Rattle.vdb_tree.proofs.Common.{refl, ◌≡◌, ap, sym, subst, ◌∙◌, Bool, true, false, cond, not, ◌&&◌, ℕ, ◌<◌, ◌≤◌, Result, Ok, Err, length, beq, block, block_numbers, Box, coord_eq, coordinates, everywhere, is_inside, Bits, Coord, Upper, Cell, Write, On, Off, TreeRefusal, Memory, RootLimit, Field, clip, combine, field, fill, new, off, write, written, IsOutcome, cell_eq, is_constant, is_uniform, roots}
+use Rattle.std.proofs.Common.{filter}
 use Rattle.std.specs.List.{list_all}
-use Rattle.std.proofs.Math.Bool.{beq}
 use Rattle.std.proofs.Math.Path.{fun_ext}
-use Rattle.vdb_coord.specs.Blocks.{block, block_numbers}
-use Rattle.vdb_coord.specs.Space.{Box, coord_eq, coordinates, everywhere, is_inside}
-use Rattle.vdb_coord.specs.declared.Bits.{Bits}
-use Rattle.vdb_coord.specs.declared.Coord.{Coord}
-use Rattle.vdb_coord.specs.declared.Level.TheVariants.{Upper}
-use Rattle.vdb_value.specs.declared.Cell.{Cell}
-use Rattle.vdb_tree.specs.declared.Write.{Write}
-use Rattle.vdb_tree.specs.declared.Write.TheVariants.{On, Off, State, Value}
-use Rattle.vdb_tree.specs.declared.refusal.TreeRefusal.{TreeRefusal}
-use Rattle.vdb_tree.specs.declared.refusal.TreeRefusal.TheVariants.{Memory, RootLimit}
-use Rattle.vdb_tree.specs.Field.{Field, as_cell_of, as_field_of, as_write_of, clip, combine, field, fill, new, off, write, written}
-use Rattle.vdb_tree.specs.Outcome.{IsOutcome}
-use Rattle.vdb_tree.specs.ConstantBlocks.{cell_eq, is_constant, is_uniform, roots}
+use Rattle.vdb_tree.specs.declared.Write.TheVariants.{State, Value}
+use Rattle.vdb_tree.specs.Field.{as_cell_of, as_field_of, as_write_of}
 use Rattle.vdb_tree.proofs.Fields.{same_cells}
 
 made_cond : {V U : Type 0} (make : V → U) (b : Bool) (x y : Cell V) → as_cell_of make (cond b x y) ≡ cond b (as_cell_of make x) (as_cell_of make y)

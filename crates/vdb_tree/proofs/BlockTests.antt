@@ -1,18 +1,5 @@
 -- Tests of whether a block has one cell all over.
-use Rattle.std.proofs.Common.{◌≡◌, ℕ, ◌<◌, Bool, true, false, arith, refl, sym, ap, subst, ◌∙◌, IsTrue}
-use Rattle.std.specs.Prelude.{◌↔◌, Option, Some, None}
-use Rattle.vdb_coord.specs.Blocks.{block_number, offset}
-use Rattle.vdb_coord.specs.Entries.{entry_number}
-use Rattle.vdb_coord.specs.declared.Bits.{Bits}
-use Rattle.vdb_coord.specs.declared.Coord.{Coord}
-use Rattle.vdb_coord.specs.declared.Level.{Level}
-use Rattle.vdb_coord.specs.declared.Level.TheVariants.{Lower, Upper}
-use Rattle.vdb_coord.proofs.Nesting.{block_from_entry, entry_from_offset, offset_from_entry}
-use Rattle.vdb_node.specs.declared.Entry.TheVariants.{Child, Tile}
-use Rattle.vdb_value.specs.declared.Cell.{Cell}
-use Rattle.vdb_tree.specs.Changes.{IsConstantAt, IsConstantBlock}
-use Rattle.vdb_tree.specs.Layout.{Layout, cell_at, entry_over, root_entry, upper_entry}
-use Rattle.vdb_tree.specs.ConstantBlocks.{cell_eq}
+use Rattle.vdb_tree.proofs.Common.{◌≡◌, ℕ, ◌<◌, Bool, true, false, arith, refl, sym, ap, subst, ◌∙◌, IsTrue, ◌↔◌, Option, Some, None, block_number, offset, entry_number, Bits, Coord, Level, Lower, Upper, block_from_entry, entry_from_offset, offset_from_entry, Child, Tile, Cell, IsConstantAt, IsConstantBlock, Layout, cell_at, entry_over, root_entry, upper_entry, cell_eq}
 use Rattle.vdb_tree.proofs.Descents.{root_by_block, upper_by_block}
 use Rattle.vdb_tree.proofs.Needed.{tile_block}
 use Rattle.vdb_tree.proofs.Uniform.{cell_exact, cell_itself}

@@ -1,20 +1,5 @@
 -- The cells of a block, and what the tests of the field say about it.
-use Rattle.std.proofs.Common.{◌≡◌, refl, sym, subst, ◌∙◌, Bool, true, false, IsTrue}
-use Rattle.std.specs.Prelude.{◌↔◌}
-use Rattle.vdb_coord.specs.Blocks.{block, block_around, block_number}
-use Rattle.vdb_coord.specs.Entries.{AreBits}
-use Rattle.vdb_coord.specs.Space.{everywhere, is_inside}
-use Rattle.vdb_coord.specs.declared.Bits.{Bits}
-use Rattle.vdb_coord.specs.declared.Coord.{Coord}
-use Rattle.vdb_coord.specs.declared.Level.{Level}
-use Rattle.vdb_coord.proofs.Boxes.{not_true}
-use Rattle.vdb_coord.proofs.InRange.{block_in_range, number_of_corner}
-use Rattle.vdb_coord.proofs.Nesting.{inside_numbered, number_in_block}
-use Rattle.vdb_value.specs.declared.Cell.{Cell}
-use Rattle.vdb_tree.specs.Changes.{IsConstantBlock, IsNonConstantBlock}
-use Rattle.vdb_tree.specs.Field.{Field}
-use Rattle.vdb_tree.specs.Layout.{Layout, cell_at, field_of, background_cell}
-use Rattle.vdb_tree.specs.ConstantBlocks.{is_constant, is_background, is_uniform}
+use Rattle.vdb_tree.proofs.Common.{◌≡◌, refl, sym, subst, ◌∙◌, Bool, true, false, IsTrue, ◌↔◌, block, block_around, block_number, AreBits, everywhere, is_inside, Bits, Coord, Level, not_true, block_in_range, number_of_corner, inside_numbered, number_in_block, Cell, IsConstantBlock, IsNonConstantBlock, Field, Layout, cell_at, field_of, background_cell, is_constant, is_background, is_uniform}
 use Rattle.vdb_tree.proofs.Fields.{cell_inside}
 use Rattle.vdb_tree.proofs.Uniform.{uniform_cells, uniform_from}
 

@@ -1,37 +1,8 @@
 -- Fills of a box, counted in upper extents: those of the table with those that meet the box.
-use Rattle.std.proofs.Common.{◌≡◌, ◌≢◌, ◌⊎◌, inl, inr, ℕ, ◌<◌, ◌≤◌, Bool, true, false, List, ◌∷◌, length, refl, sym, subst, ◌∙◌, arith, IsTrue}
-use Rattle.std.specs.Prelude.{IsSome, filter, Err, IfErr, Ok, OnOk, Result}
-use Rattle.std.specs.List.{IsDistinct}
-use Rattle.std.specs.Map.{keys_of}
-use Rattle.std.specs.Set.{is_member}
-use Rattle.std.proofs.lemmas.Map.Entries.{length-keys_of}
-use Rattle.std.proofs.lemmas.Map.Made.{length-le_from_is_member}
-use Rattle.vdb_coord.specs.Blocks.{block, block_number, block_numbers, key}
-use Rattle.vdb_coord.specs.Boxes.{meets}
-use Rattle.vdb_coord.specs.Entries.{AreBits, blocks_meeting}
-use Rattle.vdb_coord.specs.Space.{Box, coord_eq, coordinates, everywhere, is_box, is_inside, is_within}
-use Rattle.vdb_coord.specs.declared.Bits.{Bits}
-use Rattle.vdb_coord.specs.declared.Coord.{Coord}
-use Rattle.vdb_coord.specs.declared.Level.TheVariants.{Upper}
-use Rattle.vdb_coord.proofs.Boxes.{both, box_from_inside, not_true}
-use Rattle.vdb_coord.proofs.CountBounds.{member_passing}
-use Rattle.vdb_coord.proofs.Counts.{distinct_filter}
-use Rattle.vdb_coord.proofs.Distinct.{distinct_coordinates}
-use Rattle.vdb_coord.proofs.InRange.{corner_in_range, number_in_range, number_of_corner, numbered_in_range}
-use Rattle.vdb_coord.proofs.Meeting.{common_from_meets, within_each}
-use Rattle.vdb_coord.proofs.Members.{coord_equiv, coord_exact}
-use Rattle.vdb_coord.proofs.Nesting.{inside_numbered, number_in_block}
-use Rattle.vdb_value.specs.declared.Cell.{Cell}
-use Rattle.vdb_tree.specs.Changes.{IsSwept}
-use Rattle.vdb_tree.specs.Field.{Field, fill}
-use Rattle.vdb_tree.specs.Layout.{Layout, cell_at, field_of, background_cell, root_at}
-use Rattle.vdb_tree.specs.Outcome.{ObeysLimit}
-use Rattle.vdb_tree.specs.ConstantBlocks.{is_background, roots}
-use Rattle.vdb_tree.specs.Capacity.{HasCapacityFor, LacksCapacityFor, MeetsRootBlock}
-use Rattle.vdb_tree.specs.Sound.{IsSound}
-use Rattle.vdb_tree.specs.Table.{HasCapacity}
-use Rattle.vdb_tree.specs.declared.refusal.TreeRefusal.{TreeRefusal}
-use Rattle.vdb_tree.specs.declared.refusal.TreeRefusal.TheVariants.{Memory, RootLimit}
+use Rattle.vdb_tree.proofs.Common.{◌≡◌, ◌≢◌, ◌⊎◌, inl, inr, ℕ, ◌<◌, ◌≤◌, Bool, true, false, List, ◌∷◌, length, refl, sym, subst, ◌∙◌, arith, IsTrue, IsSome, Err, Ok, OnOk, Result, IsDistinct, keys_of, is_member, length-keys_of, length-le_from_is_member, block, block_number, block_numbers, key, meets, AreBits, blocks_meeting, Box, coord_eq, coordinates, everywhere, is_box, is_inside, is_within, Bits, Coord, Upper, both, not_true, member_passing, distinct_filter, distinct_coordinates, corner_in_range, number_in_range, number_of_corner, numbered_in_range, within_each, coord_equiv, coord_exact, inside_numbered, number_in_block, Cell, IsSwept, Field, fill, Layout, cell_at, field_of, background_cell, root_at, ObeysLimit, is_background, roots, HasCapacityFor, LacksCapacityFor, MeetsRootBlock, IsSound, HasCapacity, TreeRefusal, Memory, RootLimit}
+use Rattle.std.specs.Prelude.{filter, IfErr}
+use Rattle.vdb_coord.proofs.Boxes.{box_from_inside}
+use Rattle.vdb_coord.proofs.Meeting.{common_from_meets}
 use Rattle.vdb_tree.proofs.Blocks.{never, uniform_block, uniform_block_from, non_background_from}
 use Rattle.vdb_tree.proofs.Fields.{cell_inside}
 use Rattle.vdb_tree.proofs.Levels.{bool_cases, coord_cases}

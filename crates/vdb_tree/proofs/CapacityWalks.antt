@@ -1,25 +1,5 @@
 -- Walks over the upper extents that meet a box: whether the table has capacity for them, and their entries.
-use Rattle.std.proofs.Common.{◌≡◌, ◌⊎◌, inl, inr, ℕ, ℤ, ◌+◌, ◌-◌, ◌<◌, ◌<ℤ◌, true, false, List, ◌∷◌, length, refl, sym, subst, ◌∙◌, arith, IsTrue}
-use Rattle.std.specs.Prelude.{Option, Some, None, IsSome, is_none}
-use Rattle.std.specs.List.{IsDistinct}
-use Rattle.std.specs.Map.{keys_of}
-use Rattle.std.specs.Set.{is_member}
-use Rattle.std.proofs.lemmas.Int.{ints}
-use Rattle.std.proofs.lemmas.Map.Entries.{length-keys_of}
-use Rattle.vdb_coord.specs.Blocks.{block_number, key}
-use Rattle.vdb_coord.specs.Space.{Box, coord_eq, is_box, is_inside}
-use Rattle.vdb_coord.specs.Walk.{IsBefore, IsBlockBefore, IsNextBlock}
-use Rattle.vdb_coord.specs.declared.Bits.{Bits}
-use Rattle.vdb_coord.specs.declared.Coord.{Coord}
-use Rattle.vdb_coord.specs.declared.Level.TheVariants.{Upper}
-use Rattle.vdb_coord.proofs.Boxes.{not_true}
-use Rattle.vdb_coord.proofs.Members.{coord_equiv, coord_exact}
-use Rattle.vdb_coord.proofs.Walk.{min_inside, none_before}
-use Rattle.vdb_tree.specs.Changes.{AddsNodes, Keeps, SameDescent}
-use Rattle.vdb_tree.specs.Layout.{Layout, root_at}
-use Rattle.vdb_tree.specs.Nodes.{MakesKeysIn}
-use Rattle.vdb_tree.specs.Capacity.{HasCapacityFor, LacksCapacityFor}
-use Rattle.vdb_tree.specs.Sound.{IsSound}
+use Rattle.vdb_tree.proofs.Common.{◌≡◌, ◌⊎◌, inl, inr, ℕ, ℤ, ◌+◌, ◌-◌, ◌<◌, ◌<ℤ◌, true, false, List, ◌∷◌, length, refl, sym, subst, ◌∙◌, arith, IsTrue, Option, Some, None, IsSome, is_none, IsDistinct, keys_of, is_member, ints, length-keys_of, block_number, key, Box, coord_eq, is_box, is_inside, IsBefore, IsBlockBefore, IsNextBlock, Bits, Coord, Upper, not_true, coord_equiv, coord_exact, min_inside, none_before, AddsNodes, Keeps, SameDescent, Layout, root_at, MakesKeysIn, HasCapacityFor, LacksCapacityFor, IsSound}
 use Rattle.vdb_tree.proofs.Rooted.{key_member, member_entry, one_more, or_cases, or_first, or_second}
 use Rattle.vdb_tree.proofs.RootCounts.{unheld}
 use Rattle.vdb_tree.proofs.MadeNodes.{keys_in_twice}

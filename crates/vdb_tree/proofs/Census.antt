@@ -1,29 +1,11 @@
 -- The nodes and the entries of a tree, counted against the blocks that need them.
-use Rattle.std.proofs.Common.{◌≡◌, inl, inr, ℕ, pos, zero, suc, ◌≤◌, Bool, true, false, not, cond, List, [], ◌∷◌, length, refl, sym, subst, ◌∙◌, arith, IsTrue}
-use Rattle.std.specs.Prelude.{Option, Some, None, IsSome, is_some, count_by, slice_index_or}
-use Rattle.std.specs.List.{AllByRecursion, IsDistinct}
-use Rattle.std.specs.Map.{keys_of}
-use Rattle.std.specs.Set.{is_member}
-use Rattle.std.proofs.lemmas.List.Sums.{length-filter, sum_by-cons}
-use Rattle.std.proofs.lemmas.Map.Entries.{length-keys_of}
-use Rattle.vdb_coord.specs.Blocks.{block, block_number, block_numbers, key}
-use Rattle.vdb_coord.specs.Entries.{AreBits}
-use Rattle.vdb_coord.specs.Space.{coord_eq, coordinates, everywhere, is_inside}
-use Rattle.vdb_coord.specs.declared.Bits.{Bits}
-use Rattle.vdb_coord.specs.declared.Coord.{Coord}
-use Rattle.vdb_coord.specs.declared.Level.{Level}
-use Rattle.vdb_coord.specs.declared.Level.TheVariants.{Leaf, Lower, Upper}
-use Rattle.vdb_coord.proofs.CountBounds.{count_at_least, count_at_most}
-use Rattle.vdb_coord.proofs.InRange.{corner_in_range, key_in_range, number_in_range, number_of_corner, numbered_in_range}
-use Rattle.vdb_coord.proofs.Members.{coord_exact}
-use Rattle.vdb_node.specs.declared.Entry.{Entry}
-use Rattle.vdb_node.specs.declared.Entry.TheVariants.{Child}
-use Rattle.vdb_pool.specs.Contents.{Contents, count_of, node_at}
-use Rattle.vdb_tree.specs.Layout.{Layout, entry_over, field_of, lower_entry, root_at, root_entry, upper_entry}
-use Rattle.vdb_tree.specs.Paths.{is_child}
-use Rattle.vdb_tree.specs.ConstantBlocks.{is_constant, is_background, non_constant, roots}
-use Rattle.vdb_tree.specs.Smallest.{IsAtMost, IsLeast, least_counts, counts_of}
-use Rattle.vdb_tree.specs.Sound.{IsOwned, IsSound}
+use Rattle.vdb_tree.proofs.Common.{◌≡◌, inl, inr, ℕ, pos, zero, suc, ◌≤◌, Bool, true, false, not, cond, List, [], ◌∷◌, length, refl, sym, subst, ◌∙◌, arith, IsTrue, Option, Some, None, IsSome, is_some, slice_index_or, AllByRecursion, keys_of, is_member, length-filter, length-keys_of, block, block_number, block_numbers, key, AreBits, coord_eq, coordinates, everywhere, is_inside, Bits, Coord, Level, Leaf, Lower, Upper, count_at_least, count_at_most, corner_in_range, number_in_range, number_of_corner, numbered_in_range, coord_exact, Entry, Child, Contents, node_at, Layout, entry_over, field_of, lower_entry, root_at, root_entry, upper_entry, is_child, is_constant, is_background, roots, IsAtMost, IsLeast, least_counts, counts_of, IsOwned, IsSound}
+use Rattle.std.specs.Prelude.{count_by}
+use Rattle.std.specs.List.{IsDistinct}
+use Rattle.std.proofs.lemmas.List.Sums.{sum_by-cons}
+use Rattle.vdb_coord.proofs.InRange.{key_in_range}
+use Rattle.vdb_pool.specs.Contents.{count_of}
+use Rattle.vdb_tree.specs.ConstantBlocks.{non_constant}
 use Rattle.vdb_tree.proofs.Descents.{lower_by_block, root_by_block, tile_lower, tile_upper, upper_by_block}
 use Rattle.vdb_tree.proofs.Levels.{IsByBlock, child_slot, like_coords, tile_no_child, tile_or_child, unlike_coords}
 use Rattle.vdb_tree.proofs.Needed.{absent_entry, child_of, has_needed, is_child_from, is_some_from, some_or_none}

@@ -1,14 +1,11 @@
 -- Cells of worked examples, checked by computing.
-use Rattle.std.proofs.Common.{refl, ◌≡◌, ℕ, ℤ, pos, true, false}
-use Rattle.std.specs.Int.{int_max, int_min}
+use Rattle.vdb_tree.proofs.Common.{refl, ◌≡◌, ℕ, ℤ, pos, true, false, int_min, coord, Box, Cell, On, Off, Field, new, write, fill, clip, unite, combine, count, is_background}
+use Rattle.std.specs.Int.{int_max}
 use Rattle.std.specs.Ordering.{int_eq}
-use Rattle.vdb_coord.specs.Space.{coord, coordinates, Box}
-use Rattle.vdb_value.specs.declared.Cell.{Cell}
+use Rattle.vdb_coord.specs.Space.{coordinates}
 use Rattle.vdb_value.specs.declared.Kind.TheVariants.{I32}
 use Rattle.vdb_value.specs.Values.{sum_in}
-use Rattle.vdb_tree.specs.declared.Write.TheVariants.{On, Off}
-use Rattle.vdb_tree.specs.Field.{Field, new, write, fill, clip, unite, combine, sum, replace, dilate, erode, iterations}
-use Rattle.vdb_tree.specs.ConstantBlocks.{count, is_background}
+use Rattle.vdb_tree.specs.Field.{sum, replace, dilate, erode, iterations}
 
 abbrev box : ℕ → ℕ → Box
 box low high = record { min = coord (pos low) (pos low) (pos low); max = coord (pos high) (pos high) (pos high) }

@@ -1,24 +1,8 @@
 -- What stays when the children of a node become tiles, one after another.
-use Rattle.std.proofs.Common.{◌≡◌, ◌≢◌, ◌⊎◌, inl, inr, ℕ, ◌+◌, ◌-◌, ◌<◌, ◌≤◌, refl, sym, ◌∙◌, arith}
-use Rattle.vdb_coord.specs.Blocks.{block_number, entries, offset}
-use Rattle.vdb_coord.specs.Entries.{entry_number}
-use Rattle.vdb_coord.specs.Space.{Box}
-use Rattle.vdb_coord.specs.declared.Bits.{Bits}
-use Rattle.vdb_coord.specs.declared.Coord.{Coord}
-use Rattle.vdb_coord.specs.declared.Level.{Level}
-use Rattle.vdb_coord.proofs.Nesting.{corner_of_entry, entry_from_offset}
-use Rattle.vdb_coord.proofs.Positions.{offset_below}
-use Rattle.vdb_node.specs.declared.Entry.{Entry}
-use Rattle.vdb_node.specs.declared.Entry.TheVariants.{Child, Tile}
-use Rattle.vdb_value.specs.declared.Cell.{Cell}
-use Rattle.vdb_tree.specs.Changes.{Fills, KeepsBeyond, SameDescent}
-use Rattle.vdb_tree.specs.internal.Children.{IsChildless, IsNextCornerAt}
-use Rattle.vdb_tree.specs.Layout.{Layout}
-use Rattle.vdb_tree.specs.internal.Paints.{KeepsOutside}
-use Rattle.vdb_tree.specs.SplitBox.{IsCovered}
+use Rattle.vdb_tree.proofs.Common.{◌≡◌, ◌≢◌, ◌⊎◌, inl, inr, ℕ, ◌+◌, ◌-◌, ◌<◌, ◌≤◌, sym, ◌∙◌, arith, block_number, entries, offset, entry_number, Box, Bits, Coord, Level, corner_of_entry, entry_from_offset, offset_below, Entry, Child, Tile, Cell, Fills, KeepsBeyond, SameDescent, IsChildless, IsNextCornerAt, Layout, KeepsOutside, IsCovered}
 use Rattle.vdb_tree.proofs.Covered.{covered_inside}
 use Rattle.vdb_tree.proofs.Levels.{coord_cases, tile_no_child}
-use Rattle.vdb_tree.proofs.Passes.{descent_trans, head_same, head_trans}
+use Rattle.vdb_tree.proofs.Passes.{descent_trans, head_trans}
 
 below_or : (a b : ℕ) → (a < b) ⊎ (b ≤ a)
 below_or a b = grind arith
@@ -42,9 +26,6 @@ fewer_left from next n h k = omega (arith, h, k)
 
 module _ {V : Type 0} (bits : Bits) where
   -- ---- what lies beyond a block
-
-  pub beyond_same : (level : Level) (t : Layout V) (p : Coord) → KeepsBeyond bits level t t p
-  beyond_same level t p = record { head = head_same t; cells = λ q d. refl; entries = λ q d over. refl }
 
   pub beyond_twice : (level : Level) (old mid new : Layout V) (p : Coord) → KeepsBeyond bits level old mid p → KeepsBeyond bits level mid new p → KeepsBeyond bits level old new p
   beyond_twice level old mid new p a b = record {

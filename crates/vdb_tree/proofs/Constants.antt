@@ -1,27 +1,9 @@
 -- What the one tile or cell of a node says about its block.
-use Rattle.std.proofs.Common.{◌≡◌, inl, inr, ℕ, ◌+◌, ◌-◌, ◌*◌, ◌^◌, ◌<◌, ◌≤◌, List, length, refl, sym, ap, ◌∙◌, arith, get_or}
+use Rattle.vdb_tree.proofs.Common.{◌≡◌, inl, inr, ℕ, ◌+◌, ◌-◌, ◌*◌, ◌^◌, ◌<◌, ◌≤◌, List, length, refl, sym, ap, ◌∙◌, arith, ◌↔◌, Option, Some, slice_index_or, get_or_default, get_or_past, block_number, entries, node_bits, offset, AreBits, Bits, Coord, Level, corner, corner_of_entry, entries_is, offset_below, Leaf, HasChild, IsConstant, IsNextChildAt, cell_in, IsConstantLeaf, entry_count, Entry, Child, Tile, node_at, Cell, IsConstantBlock, IsChildless, IsNextCornerAt, IsTiled, Layout, cell_at, lower_entry, background_cell}
+use Rattle.std.proofs.Common.{get_or}
 use Rattle.std.proofs.Math.Pow.{pow_mono}
-use Rattle.std.specs.Prelude.{◌↔◌, Option, Some, slice_index_or}
-use Rattle.std.proofs.lemmas.List.{get_or_default, get_or_past}
-use Rattle.vdb_coord.specs.Blocks.{block_number, entries, node_bits, offset}
-use Rattle.vdb_coord.specs.Entries.{AreBits}
-use Rattle.vdb_coord.specs.declared.Bits.{Bits}
-use Rattle.vdb_coord.specs.declared.Coord.{Coord}
-use Rattle.vdb_coord.specs.declared.Level.{Level}
-use Rattle.vdb_coord.proofs.Loops.{corner}
-use Rattle.vdb_coord.proofs.Nesting.{corner_of_entry}
-use Rattle.vdb_coord.proofs.Positions.{entries_is, node_bits_fit, offset_below}
-use Rattle.vdb_coord.specs.declared.Level.TheVariants.{Leaf}
-use Rattle.vdb_node.specs.Entries.{HasChild, IsConstant, IsNextChildAt}
-use Rattle.vdb_node.specs.Leaf.{cell_in, IsConstantLeaf, Leaf as LeafOf}
-use Rattle.vdb_node.specs.Nodes.{entry_count}
-use Rattle.vdb_node.specs.declared.Entry.{Entry}
-use Rattle.vdb_node.specs.declared.Entry.TheVariants.{Child, Tile}
-use Rattle.vdb_pool.specs.Contents.{node_at}
-use Rattle.vdb_value.specs.declared.Cell.{Cell}
-use Rattle.vdb_tree.specs.Changes.{IsConstantBlock}
-use Rattle.vdb_tree.specs.internal.Children.{IsChildless, IsNextCornerAt, IsTiled}
-use Rattle.vdb_tree.specs.Layout.{Layout, cell_at, lower_entry, background_cell}
+use Rattle.vdb_coord.proofs.Positions.{node_bits_fit}
+use Rattle.vdb_node.specs.Leaf.{Leaf as LeafOf}
 use Rattle.vdb_tree.proofs.Descents.{leaf_cell}
 use Rattle.vdb_tree.proofs.Levels.{tile_no_child}
 use Rattle.vdb_tree.proofs.Pools.{below_or}

@@ -1,13 +1,5 @@
 -- Entries copied into another table, key after key, in the order of keys.
-use Rattle.std.proofs.Common.{◌≡◌, inl, inr, ◌+◌, ◌≤◌, List, length, arith, ap, sym, ◌∙◌}
-use Rattle.std.specs.Prelude.{Option, Some, None, if◌then◌else◌}
-use Rattle.std.specs.List.{IsDistinct}
-use Rattle.std.specs.Map.{keys_of}
-use Rattle.vdb_coord.specs.Space.{coord_eq}
-use Rattle.vdb_coord.specs.declared.Coord.{Coord}
-use Rattle.vdb_node.specs.declared.Entry.{Entry}
-use Rattle.vdb_tree.specs.Layout.{root_at}
-use Rattle.vdb_tree.specs.Table.{IsNextKey, IsPast}
+use Rattle.vdb_tree.proofs.Common.{◌≡◌, inl, inr, ◌+◌, ◌≤◌, List, length, arith, ap, sym, ◌∙◌, Option, Some, None, if◌then◌else◌, IsDistinct, keys_of, coord_eq, Coord, Entry, root_at, IsNextKey, IsPast}
 use Rattle.vdb_tree.proofs.KeysPast.{fewer_past, keys_past, past_on}
 use Rattle.vdb_tree.proofs.Levels.{coord_cases}
 use Rattle.vdb_tree.proofs.Needed.{is_some_from, some_or_none}
@@ -50,14 +42,3 @@ module _ {V : Type 0} (root : List (Coord × Entry V)) where
     few = let fewer = fewer_past root passed key next in let few = copied.few in omega (arith, fewer, few, size);
     distinct = distinct;
   }
-
-  -- if no key is left, all entries are copied
-  pub copied_all : (copy : List (Coord × Entry V)) (passed : Option Coord) → IsCopiedTo root copy passed → IsNextKey root passed None → (k : Coord) → root_at copy k ≡ root_at root k
-  copied_all copy passed copied next k =
-      elim (past_or_not passed k) [
-        | inr before ↦ copied.behind k before
-        | inl past ↦ copied.ahead k past ∙ sym (next k past)
-      ]
-
-  pub copied_size : (copy : List (Coord × Entry V)) (passed : Option Coord) → IsCopiedTo root copy passed → length copy ≤ length root
-  copied_size copy passed copied = let few = copied.few in omega (arith, few)

@@ -1,16 +1,6 @@
 -- Blocks that lie within a box.
-use Rattle.std.proofs.Common.{◌≡◌, sym, subst, IsTrue}
-use Rattle.vdb_coord.specs.Blocks.{block, block_around, block_bits, block_number}
-use Rattle.vdb_coord.specs.Space.{Box, is_inside, is_within}
-use Rattle.vdb_coord.specs.declared.Bits.{Bits}
-use Rattle.vdb_coord.specs.declared.Coord.{Coord}
-use Rattle.vdb_coord.specs.declared.Level.{Level}
-use Rattle.vdb_coord.specs.declared.Level.TheVariants.{Leaf, Lower, Upper}
-use Rattle.vdb_coord.proofs.Boxes.{and_true}
-use Rattle.vdb_coord.proofs.InRange.{number_of_corner}
-use Rattle.vdb_coord.proofs.Meeting.{number_of_last, within_each}
-use Rattle.vdb_coord.proofs.Nesting.{inside_numbered, lower_from_leaf, upper_from_lower}
-use Rattle.vdb_tree.specs.SplitBox.{IsCovered}
+use Rattle.vdb_tree.proofs.Common.{◌≡◌, sym, subst, IsTrue, block, block_around, block_bits, block_number, Box, is_inside, is_within, Bits, Coord, Level, Leaf, Lower, Upper, and_true, number_of_corner, within_each, inside_numbered, lower_from_leaf, upper_from_lower, IsCovered}
+use Rattle.vdb_coord.proofs.Meeting.{number_of_last}
 
 -- the last coordinate of a block has the block's number
 number_of_end : (bits : Bits) (level : Level) (n : Coord) → block_number bits level (block bits level n).max ≡ n

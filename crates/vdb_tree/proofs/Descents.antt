@@ -1,16 +1,7 @@
 -- A tree's entries and cells, given by its nodes.
-use Rattle.std.proofs.Common.{◌≡◌, ℕ, List, refl, ap, ◌∙◌}
-use Rattle.std.specs.Prelude.{Some, slice_index_or}
-use Rattle.vdb_coord.specs.Blocks.{block_number, offset}
-use Rattle.vdb_coord.specs.declared.Bits.{Bits}
-use Rattle.vdb_coord.specs.declared.Coord.{Coord}
-use Rattle.vdb_coord.specs.declared.Level.TheVariants.{Leaf, Lower, Upper}
-use Rattle.vdb_node.specs.Leaf.{cell_in, Leaf as LeafOf}
-use Rattle.vdb_node.specs.declared.Entry.{Entry}
-use Rattle.vdb_node.specs.declared.Entry.TheVariants.{Child, Tile}
-use Rattle.vdb_pool.specs.Contents.{node_at}
-use Rattle.vdb_value.specs.declared.Cell.{Cell}
-use Rattle.vdb_tree.specs.Layout.{Layout, cell_at, entry_of_key, lower_entry, background_cell, root_entry, upper_entry}
+use Rattle.vdb_tree.proofs.Common.{◌≡◌, ℕ, List, refl, ap, ◌∙◌, Some, slice_index_or, block_number, offset, Bits, Coord, Leaf, Lower, Upper, cell_in, Entry, Child, Tile, node_at, Cell, Layout, lower_entry, background_cell, root_entry, upper_entry}
+use Rattle.vdb_node.specs.Leaf.{Leaf as LeafOf}
+use Rattle.vdb_tree.specs.Layout.{cell_at, entry_of_key}
 use Rattle.vdb_tree.proofs.Levels.{IsByBlock, below_by_entry}
 
 module _ {V : Type 0} (bits : Bits) (t : Layout V) where

@@ -1,7 +1,6 @@
 -- How many entries a node has, in numbers of 32 bits.
-use Rattle.std.proofs.Common.{ℕ, ◌+◌, ◌*◌, ◌<◌, ◌≤◌, ◌^◌, arith}
+use Rattle.vdb_tree.proofs.Common.{ℕ, ◌+◌, ◌*◌, ◌<◌, ◌≤◌, ◌^◌, arith, entry_count}
 use Rattle.std.proofs.Math.Nat.{pow-le-pow_right}
-use Rattle.vdb_node.specs.Nodes.{entry_count}
 
 pub few_entries : (b : ℕ) → b ≤ 5 → entry_count b ≤ 32768
 few_entries b h =

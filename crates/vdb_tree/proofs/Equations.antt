@@ -1,13 +1,5 @@
 -- From changes in a layout to equations of fields.
-use Rattle.std.proofs.Common.{◌≡◌, IsTrue, sym, ap, ◌∙◌, inl, inr}
-use Rattle.vdb_coord.specs.Space.{everywhere, is_inside}
-use Rattle.vdb_coord.specs.declared.Bits.{Bits}
-use Rattle.vdb_coord.specs.declared.Coord.{Coord}
-use Rattle.vdb_value.specs.declared.Cell.{Cell}
-use Rattle.vdb_tree.specs.declared.Write.{Write}
-use Rattle.vdb_tree.specs.Changes.{Changes, Keeps}
-use Rattle.vdb_tree.specs.Field.{field, write, written}
-use Rattle.vdb_tree.specs.Layout.{Layout, cell_at, field_of}
+use Rattle.vdb_tree.proofs.Common.{◌≡◌, IsTrue, sym, ap, ◌∙◌, inl, inr, everywhere, is_inside, Bits, Coord, Cell, Write, Changes, Keeps, field, write, written, Layout, cell_at, field_of}
 use Rattle.vdb_tree.proofs.Fields.{cell_inside, same_cells}
 use Rattle.vdb_tree.proofs.Levels.{coord_cases, like_coords, unlike_coords}
 

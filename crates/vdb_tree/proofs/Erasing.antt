@@ -1,21 +1,6 @@
 -- Removal of the entries of background upper extents, in the order of keys.
-use Rattle.std.proofs.Common.{◌≡◌, IsTrue, inl, inr, refl, subst, sym, ◌∙◌}
-use Rattle.std.specs.Prelude.{Option, Some, None}
-use Rattle.vdb_coord.specs.Blocks.{key}
-use Rattle.vdb_coord.specs.Space.{Box, coord_cmp}
-use Rattle.vdb_coord.specs.declared.Bits.{Bits}
-use Rattle.vdb_coord.specs.declared.Coord.{Coord}
-use Rattle.vdb_coord.specs.declared.Level.{Level}
-use Rattle.vdb_coord.specs.declared.Level.TheVariants.{Leaf, Lower, Upper}
-use Rattle.vdb_coord.proofs.Nesting.{lower_from_leaf, upper_from_lower}
-use Rattle.vdb_value.specs.declared.Cell.{Cell}
-use Rattle.vdb_tree.specs.Changes.{IsConstantBlock, IsNeededTo, IsNoBackgroundRoot, Keeps, PrunesRoot, SameDescent}
-use Rattle.vdb_tree.specs.Layout.{Layout, cell_at, entry_over, lower_entry, background_cell, root_at, root_entry, upper_entry}
-use Rattle.vdb_tree.specs.Nodes.{MakesNoKey}
-use Rattle.vdb_tree.specs.Paths.{is_child}
-use Rattle.vdb_tree.specs.SplitBox.{IsSplit}
-use Rattle.vdb_tree.specs.internal.Erase.{AddsBackgroundTiles, ErasesRoot}
-use Rattle.vdb_tree.specs.Table.{IsNextKey, IsPast}
+use Rattle.vdb_tree.proofs.Common.{◌≡◌, IsTrue, inl, inr, refl, subst, sym, ◌∙◌, Option, Some, None, key, Box, coord_cmp, Bits, Coord, Level, Leaf, Lower, Upper, lower_from_leaf, upper_from_lower, Cell, IsConstantBlock, IsNeededTo, IsNoBackgroundRoot, Keeps, PrunesRoot, SameDescent, Layout, cell_at, entry_over, lower_entry, background_cell, root_at, root_entry, upper_entry, MakesNoKey, is_child, IsSplit, AddsBackgroundTiles, IsNextKey, IsPast}
+use Rattle.vdb_tree.specs.internal.Erase.{ErasesRoot}
 use Rattle.vdb_tree.proofs.KeysPast.{past_on}
 use Rattle.vdb_tree.proofs.Levels.{coord_cases}
 use Rattle.vdb_tree.proofs.MadeNodes.{keys_but, keys_twice, no_node_twice, same_no_node}

@@ -1,29 +1,7 @@
 -- The next start in a node: by its entries, and by the box alone.
-use Rattle.std.proofs.Common.{◌≡◌, ◌⊎◌, inl, inr, ℕ, ◌+◌, ◌<◌, ◌≤◌, true, false, List, arith, ap, refl, sym, subst, ◌∙◌}
-use Rattle.std.specs.Prelude.{◌&&◌, Option, Some, None, IsTrue}
-use Rattle.vdb_coord.specs.Blocks.{block_around, block_number, entries, node_bits, offset, sub_block}
-use Rattle.vdb_coord.specs.Order.{ComesBefore, IsFirstPast, IsNextCoord, IsUpToBlock}
-use Rattle.vdb_coord.specs.Space.{Box, is_box, is_inside}
-use Rattle.vdb_coord.specs.declared.Bits.{Bits}
-use Rattle.vdb_coord.specs.declared.Coord.{Coord}
-use Rattle.vdb_coord.specs.declared.Level.{Level}
-use Rattle.vdb_coord.specs.declared.Level.TheVariants.{Leaf, Lower, Upper}
-use Rattle.vdb_coord.proofs.BlockOrder.{contiguous, from_lower, from_upper, not_before_min, not_both, not_itself}
-use Rattle.vdb_coord.proofs.Boxes.{and_true, both}
-use Rattle.vdb_coord.proofs.Nesting.{entry_holds, in_entry, leaf_from_lower, lower_from_leaf, lower_from_upper, offset_from_entry, upper_from_lower}
-use Rattle.vdb_coord.proofs.Positions.{entries_is, offset_below}
-use Rattle.vdb_coord.proofs.Walk.{min_inside}
-use Rattle.vdb_node.specs.Entries.{IsFirstWithout, IsInactiveTile, IsTileOf}
-use Rattle.vdb_node.specs.Nodes.{entry_count}
-use Rattle.vdb_node.specs.declared.Entry.{Entry}
-use Rattle.vdb_node.specs.declared.Entry.TheVariants.{Child, Tile}
-use Rattle.vdb_pool.specs.Contents.{node_at}
-use Rattle.vdb_value.specs.declared.Cell.{Cell}
-use Rattle.vdb_tree.specs.internal.Jumps.{ArePassed, IsJump, IsJumpAt, IsLast, IsNextEntryAt, IsNextPartAt}
-use Rattle.vdb_tree.specs.Layout.{Layout, background_cell, root_entry, upper_entry}
-use Rattle.vdb_tree.specs.Parts.{IsNextAbove, IsSkipped}
-use Rattle.vdb_tree.specs.declared.queries.parts.Skip.{Skip}
-use Rattle.vdb_tree.specs.declared.queries.parts.Skip.TheVariants.{Background, Inactive}
+use Rattle.vdb_tree.proofs.Common.{◌≡◌, ◌⊎◌, inl, inr, ℕ, ◌+◌, ◌<◌, ◌≤◌, true, false, List, arith, ap, refl, sym, subst, ◌∙◌, ◌&&◌, Option, Some, None, IsTrue, block_around, block_number, entries, node_bits, offset, sub_block, ComesBefore, IsFirstPast, IsNextCoord, IsUpToBlock, Box, is_box, is_inside, Bits, Coord, Level, Leaf, Lower, Upper, contiguous, from_lower, from_upper, not_before_min, not_both, not_itself, and_true, both, entry_holds, in_entry, leaf_from_lower, lower_from_leaf, lower_from_upper, offset_from_entry, upper_from_lower, entries_is, offset_below, min_inside, IsFirstWithout, IsInactiveTile, IsTileOf, entry_count, Entry, Child, Tile, node_at, Cell, IsJumpAt, IsLast, Layout, background_cell, root_entry, upper_entry, IsSkipped, Skip, Background, Inactive}
+use Rattle.vdb_tree.specs.internal.Jumps.{ArePassed, IsJump, IsNextEntryAt, IsNextPartAt}
+use Rattle.vdb_tree.specs.Parts.{IsNextAbove}
 use Rattle.vdb_tree.proofs.Descents.{lower_node_entry, upper_node_entry}
 use Rattle.vdb_tree.proofs.PartWalks.{background_skipped, inactive_skipped}
 

@@ -1,24 +1,8 @@
 -- Passing over keys between the rows of a box of keys.
-use Rattle.std.proofs.Common.{◌≡◌, ◌⊎◌, inl, inr, ℤ, pos, ◌+ℤ◌, ◌<ℤ◌, ◌≤ℤ◌, true, false, List, arith, refl, sym, subst, IsTrue}
-use Rattle.std.specs.Prelude.{Some, None, IsSome}
-use Rattle.std.specs.Ordering.{is_gt}
-use Rattle.std.specs.declared.cmp.Ordering.TheVariants.{Less}
-use Rattle.std.proofs.lemmas.Int.{ints}
-use Rattle.vdb_coord.specs.Blocks.{block_bits, key}
-use Rattle.vdb_coord.specs.Entries.{numbers_over}
-use Rattle.vdb_coord.specs.Space.{Box, coord, coord_cmp, is_inside}
-use Rattle.vdb_coord.specs.Walk.{IsBefore}
-use Rattle.vdb_coord.specs.declared.Bits.{Bits}
-use Rattle.vdb_coord.specs.declared.Coord.{Coord}
-use Rattle.vdb_coord.specs.declared.Level.TheVariants.{Upper}
-use Rattle.vdb_coord.proofs.BlockOrder.{key_less, less_apart, less_once, which_before}
+use Rattle.vdb_tree.proofs.Common.{◌≡◌, ◌⊎◌, inl, inr, ℤ, pos, ◌+ℤ◌, ◌<ℤ◌, ◌≤ℤ◌, true, false, List, arith, refl, sym, subst, IsTrue, Some, None, IsSome, is_gt, Less, ints, block_bits, key, numbers_over, Box, coord, coord_cmp, is_inside, IsBefore, Bits, Coord, Upper, key_less, less_apart, less_once, which_before, coord_equiv, coord_total, inside_from, inside_parts, Entry, root_at, IsNextMet, MeetsRootBlock, IsNextKey}
 use Rattle.vdb_coord.proofs.Digits.{number_mono}
-use Rattle.vdb_coord.proofs.Members.{coord_equiv, coord_total}
-use Rattle.vdb_coord.proofs.Walk.{inside_from, inside_parts, up_to_x}
-use Rattle.vdb_node.specs.declared.Entry.{Entry}
-use Rattle.vdb_tree.specs.Layout.{root_at}
-use Rattle.vdb_tree.specs.Capacity.{IsNextMet, MeetsRootBlock, SkipsTo}
-use Rattle.vdb_tree.specs.Table.{IsNextKey}
+use Rattle.vdb_coord.proofs.Walk.{up_to_x}
+use Rattle.vdb_tree.specs.Capacity.{SkipsTo}
 use Rattle.vdb_tree.proofs.Blocks.{never}
 use Rattle.vdb_tree.proofs.KeysMet.{not_greater}
 use Rattle.vdb_tree.proofs.Levels.{some_held}

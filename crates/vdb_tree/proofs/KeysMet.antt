@@ -1,20 +1,6 @@
 -- Which keys of a table may belong to upper extents that meet a box.
-use Rattle.std.proofs.Common.{◌≡◌, ◌⊎◌, inl, inr, true, false, List, refl, sym, subst, ◌∙◌, IsTrue}
-use Rattle.std.specs.Prelude.{Option, Some, None, IsSome, is_some}
-use Rattle.std.specs.Ordering.{is_eq, is_gt, is_lt, is_some_and, ordering_then, partial_ordering_then}
-use Rattle.std.specs.declared.cmp.Ordering.{Ordering}
-use Rattle.std.specs.declared.cmp.Ordering.TheVariants.{Less, Equal, Greater}
-use Rattle.vdb_coord.specs.Blocks.{key}
-use Rattle.vdb_coord.specs.Space.{Box, coord_cmp, is_inside}
-use Rattle.vdb_coord.specs.declared.Bits.{Bits}
-use Rattle.vdb_coord.specs.declared.Coord.{Coord}
-use Rattle.vdb_coord.specs.declared.Level.TheVariants.{Upper}
-use Rattle.vdb_coord.proofs.BlockOrder.{key_less, which_before}
-use Rattle.vdb_coord.proofs.Members.{coord_equiv}
-use Rattle.vdb_coord.proofs.Walk.{none_before}
-use Rattle.vdb_node.specs.declared.Entry.{Entry}
-use Rattle.vdb_tree.specs.Layout.{root_at}
-use Rattle.vdb_tree.specs.Capacity.{IsNextMet}
+use Rattle.vdb_tree.proofs.Common.{◌≡◌, ◌⊎◌, inl, inr, true, false, List, refl, sym, subst, ◌∙◌, IsTrue, Option, Some, None, IsSome, is_some, is_eq, is_gt, is_lt, Ordering, Less, Equal, Greater, key, Box, coord_cmp, is_inside, Bits, Coord, Upper, key_less, which_before, coord_equiv, none_before, Entry, root_at, IsNextMet}
+use Rattle.std.specs.Ordering.{is_some_and, ordering_then, partial_ordering_then}
 use Rattle.vdb_tree.proofs.Levels.{some_held}
 
 pub not_greater : (o : Ordering) → is_eq o ≡ true → is_gt o ≡ false

@@ -1,16 +1,5 @@
 -- How many keys of a table come past another: the measure of a walk over its keys.
-use Rattle.std.proofs.Common.{◌≡◌, inl, inr, ℕ, ◌+◌, ◌<◌, ◌≤◌, Bool, true, false, List, [], ◌∷◌, arith, refl, subst, cond}
-use Rattle.std.specs.Prelude.{Option, Some, None, IsSome}
-use Rattle.std.specs.Ordering.{is_lt}
-use Rattle.std.specs.declared.cmp.Ordering.{Ordering}
-use Rattle.std.specs.declared.cmp.Ordering.TheVariants.{Less, Equal, Greater}
-use Rattle.vdb_coord.specs.Space.{coord_cmp, coord_eq}
-use Rattle.vdb_coord.specs.declared.Coord.{Coord}
-use Rattle.vdb_coord.proofs.Members.{coord_exact, coord_total}
-use Rattle.vdb_node.specs.declared.Entry.{Entry}
-use Rattle.vdb_tree.specs.Layout.{root_at}
-use Rattle.vdb_tree.specs.Table.{IsNextKey, IsPast}
-use Rattle.vdb_coord.proofs.BlockOrder.{less_apart, less_once}
+use Rattle.vdb_tree.proofs.Common.{◌≡◌, inl, inr, ℕ, ◌+◌, ◌<◌, ◌≤◌, Bool, true, false, List, [], ◌∷◌, arith, refl, subst, cond, Option, Some, None, IsSome, is_lt, Ordering, Less, Equal, Greater, coord_cmp, coord_eq, Coord, coord_exact, coord_total, Entry, root_at, IsNextKey, IsPast, less_apart, less_once}
 use Rattle.vdb_tree.proofs.Levels.{bool_cases}
 
 -- whether a key comes past another, if there is one
@@ -66,10 +55,6 @@ less_of : (o : Ordering) → is_lt o ≡ true → o ≡ Less
 less_of Less h = refl
 less_of Equal h = cc
 less_of Greater h = cc
-
-past_from_test : (after : Option Coord) (k : Coord) → is_key_past after k ≡ true → IsPast after k
-past_from_test None k h = tt
-past_from_test (Some a) k h = less_of (coord_cmp a k) h
 
 pub past_on : (after : Option Coord) (k l : Coord) → IsPast after k → coord_cmp k l ≡ Less → IsPast after l
 past_on None k l h later = tt

@@ -1,18 +1,7 @@
 -- What a field has in a leaf extent, by the entry over it.
-use Rattle.std.proofs.Common.{◌≡◌, ℕ, Bool, List, IsTrue, ap, refl, sym, ◌∙◌}
-use Rattle.std.specs.Prelude.{Some}
-use Rattle.vdb_coord.specs.Blocks.{block_number}
-use Rattle.vdb_coord.specs.Space.{everywhere, is_inside}
-use Rattle.vdb_coord.specs.declared.Bits.{Bits}
-use Rattle.vdb_coord.specs.declared.Coord.{Coord}
-use Rattle.vdb_coord.specs.declared.Level.TheVariants.{Leaf}
+use Rattle.vdb_tree.proofs.Common.{◌≡◌, ℕ, Bool, List, IsTrue, ap, refl, sym, ◌∙◌, Some, block_number, everywhere, is_inside, Bits, Coord, Leaf, Child, Tile, node_at, Cell, Field, Layout, cell_at, field_of, lower_entry, IsLeafAround, with_states_of}
 use Rattle.vdb_node.specs.Leaf.{Leaf as LeafOf}
-use Rattle.vdb_node.specs.declared.Entry.TheVariants.{Child, Tile}
-use Rattle.vdb_pool.specs.Contents.{node_at}
-use Rattle.vdb_value.specs.declared.Cell.{Cell}
-use Rattle.vdb_tree.specs.Field.{Field}
-use Rattle.vdb_tree.specs.Layout.{Layout, cell_at, field_of, lower_entry}
-use Rattle.vdb_tree.specs.Leaves.{IsLeafAround, SetsStates, with_states_of}
+use Rattle.vdb_tree.specs.Leaves.{SetsStates}
 use Rattle.vdb_tree.proofs.Descents.{leaf_cell, lower_by_block, tile_cell}
 use Rattle.vdb_tree.proofs.Fields.{cell_inside}
 use Rattle.vdb_tree.proofs.Levels.{like_coords, unlike_coords}

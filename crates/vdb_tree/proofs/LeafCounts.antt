@@ -1,27 +1,10 @@
 -- The active voxels of a leaf extent, counted by the states of its leaf.
-use Rattle.std.proofs.Common.{◌≡◌, ◌⊎◌, inl, inr, sym, ap, ◌∙◌, refl, subst, ℕ, zero, suc, ◌+◌, ◌<◌, ◌≤◌, Bool, true, false, ◌&&◌, cond, List, [], ◌∷◌, length, arith, IsTrue}
-use Rattle.std.specs.List.{IsDistinct, filter, range_with_len}
-use Rattle.std.specs.Set.{is_member}
-use Rattle.std.proofs.lemmas.List.Sums.{length-filter}
-use Rattle.vdb_coord.specs.Blocks.{block_around, block_number, entries, offset, sub_block}
-use Rattle.vdb_coord.specs.Entries.{AreBits}
-use Rattle.vdb_coord.specs.Space.{Box, coord_eq, coordinates, everywhere, is_inside}
-use Rattle.vdb_coord.specs.declared.Bits.{Bits}
-use Rattle.vdb_coord.specs.declared.Coord.{Coord}
-use Rattle.vdb_coord.specs.declared.Level.TheVariants.{Leaf}
-use Rattle.vdb_coord.proofs.Boxes.{and_true, both, not_true, same_truth}
-use Rattle.vdb_coord.proofs.Counts.{count_by_members}
-use Rattle.vdb_coord.proofs.InRange.{block_in_range}
-use Rattle.vdb_coord.proofs.Members.{coord_equiv, coord_exact}
-use Rattle.vdb_coord.proofs.Nesting.{corner_of_entry, inside_numbered, number_in_block, voxel_from_leaf}
-use Rattle.vdb_coord.proofs.Positions.{offset_below}
-use Rattle.vdb_mask.specs.Mask.{is_on, on_count}
+use Rattle.vdb_tree.proofs.Common.{◌≡◌, ◌⊎◌, inl, inr, sym, ap, ◌∙◌, refl, subst, ℕ, zero, suc, ◌+◌, ◌<◌, ◌≤◌, Bool, true, false, ◌&&◌, cond, List, [], ◌∷◌, length, arith, IsTrue, filter, is_member, length-filter, block_around, block_number, entries, offset, sub_block, AreBits, Box, coord_eq, coordinates, everywhere, is_inside, Bits, Coord, Leaf, and_true, both, not_true, count_by_members, block_in_range, coord_equiv, coord_exact, corner_of_entry, inside_numbered, number_in_block, voxel_from_leaf, offset_below, is_on, Field, off, IsLeafAround, count, Cell}
+use Rattle.std.specs.List.{IsDistinct, range_with_len}
+use Rattle.vdb_coord.proofs.Boxes.{same_truth}
+use Rattle.vdb_mask.specs.Mask.{on_count}
 use Rattle.vdb_node.specs.Leaf.{Leaf as LeafOf}
-use Rattle.vdb_tree.specs.Field.{Field, off}
-use Rattle.vdb_tree.specs.Leaves.{IsLeafAround}
-use Rattle.vdb_tree.specs.ConstantBlocks.{count}
 use Rattle.vdb_tree.proofs.Rooted.{one_more, or_cases, or_first, or_second}
-use Rattle.vdb_value.specs.declared.Cell.{Cell}
 
 nothing_apart : IsDistinct coord_eq []
 unfolding IsDistinct

@@ -1,30 +1,9 @@
 -- What becomes of a tree when a leaf gets other cells.
-use Rattle.std.proofs.Common.{◌≡◌, ◌≢◌, IsTrue, ℕ, ◌<◌, Bool, List, refl, sym, ap, subst, ◌∙◌, inl, inr}
-use Rattle.std.specs.Prelude.{Some}
-use Rattle.vdb_coord.specs.Blocks.{block_number, offset}
-use Rattle.vdb_coord.specs.Entries.{entry_number}
-use Rattle.vdb_coord.specs.Space.{Box, is_inside}
-use Rattle.vdb_coord.specs.declared.Bits.{Bits}
-use Rattle.vdb_coord.specs.declared.Coord.{Coord}
-use Rattle.vdb_coord.specs.declared.Level.TheVariants.{Leaf}
-use Rattle.vdb_coord.proofs.Nesting.{entry_number_leaf, voxel_from_leaf}
-use Rattle.vdb_coord.proofs.Positions.{entries_is, offset_below}
-use Rattle.vdb_mask.specs.Mask.{is_on}
-use Rattle.vdb_node.specs.Leaf.{cell_in, Leaf as LeafOf, SetsVoxel}
-use Rattle.vdb_node.specs.Nodes.{entry_count}
-use Rattle.vdb_node.specs.declared.Entry.TheVariants.{Child}
-use Rattle.vdb_pool.specs.Contents.{node_at, with_node}
-use Rattle.vdb_value.specs.declared.Cell.{Cell}
-use Rattle.vdb_tree.specs.declared.Write.{Write}
-use Rattle.vdb_tree.specs.declared.path.PathOf.TheVariants.{Empty, ToUpper, ToLower, ToLeaf}
-use Rattle.vdb_tree.specs.Changes.{Changes, Turns}
-use Rattle.vdb_tree.specs.Field.{written}
-use Rattle.vdb_tree.specs.Layout.{Layout, cell_at, field_of, lower_entry, background_cell}
-use Rattle.vdb_tree.specs.Leaves.{IsVoxelWritten, with_leaf as with_leaf_cells, with_states_of}
+use Rattle.vdb_tree.proofs.Common.{◌≡◌, ◌≢◌, IsTrue, ℕ, ◌<◌, Bool, List, refl, sym, ap, subst, ◌∙◌, inl, inr, Some, block_number, offset, entry_number, Box, is_inside, Bits, Coord, Leaf, entry_number_leaf, voxel_from_leaf, entries_is, offset_below, is_on, cell_in, entry_count, Child, node_at, with_node, Cell, Write, Empty, ToUpper, ToLower, ToLeaf, Changes, Turns, written, Layout, field_of, lower_entry, background_cell, IsVoxelWritten, with_states_of, KeepsOutside, PaintsVoxels, IsWhole, Lives, TreePath, IsSound}
+use Rattle.vdb_node.specs.Leaf.{Leaf as LeafOf, SetsVoxel}
+use Rattle.vdb_tree.specs.Layout.{cell_at}
+use Rattle.vdb_tree.specs.Leaves.{with_leaf as with_leaf_cells}
 use Rattle.vdb_tree.specs.Nodes.{AreStatesSet}
-use Rattle.vdb_tree.specs.internal.Paints.{KeepsOutside, PaintsVoxels}
-use Rattle.vdb_tree.specs.Paths.{IsWhole, Lives, TreePath}
-use Rattle.vdb_tree.specs.Sound.{IsSound}
 use Rattle.vdb_tree.proofs.Descents.{leaf_cell, lower_by_block}
 use Rattle.vdb_tree.proofs.Equations.{same_field}
 use Rattle.vdb_tree.proofs.Fields.{cell_inside}

@@ -1,6 +1,6 @@
 mod Checks
+mod Common
 pub mod Fields
-pub mod Roots
 pub mod Uniform
 pub mod AsFieldOf
 pub mod Levels

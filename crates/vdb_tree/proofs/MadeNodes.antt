@@ -1,19 +1,5 @@
 -- Which nodes and keys are added when nodes are made in place of tiles.
-use Rattle.std.proofs.Common.{◌≡◌, ◌≢◌, ◌⊎◌, inl, inr, refl, sym, ap, subst, ◌∙◌, true, IsTrue}
-use Rattle.std.specs.Prelude.{IsSome}
-use Rattle.vdb_coord.specs.Blocks.{block_number, key}
-use Rattle.vdb_coord.specs.Space.{Box, is_inside}
-use Rattle.vdb_coord.specs.declared.Bits.{Bits}
-use Rattle.vdb_coord.specs.declared.Coord.{Coord}
-use Rattle.vdb_coord.specs.declared.Level.{Level}
-use Rattle.vdb_coord.specs.declared.Level.TheVariants.{Leaf, Lower, Upper}
-use Rattle.vdb_node.specs.declared.Entry.TheVariants.{Tile}
-use Rattle.vdb_value.specs.declared.Cell.{Cell}
-use Rattle.vdb_tree.specs.Changes.{Keeps, SameDescent}
-use Rattle.vdb_tree.specs.Layout.{Layout, cell_at, entry_over, root_at}
-use Rattle.vdb_tree.specs.Nodes.{IsActiveIn, IsCut, KeepsAllBut, KeepsElsewhere, MakesKeysIn, MakesNoKey, MakesNoNode, MakesOnly}
-use Rattle.vdb_tree.specs.Paths.{is_child}
-use Rattle.vdb_tree.specs.SplitBox.{IsCovered}
+use Rattle.vdb_tree.proofs.Common.{◌≡◌, ◌≢◌, ◌⊎◌, inl, inr, refl, sym, ap, subst, ◌∙◌, true, IsTrue, IsSome, block_number, key, Box, is_inside, Bits, Coord, Level, Leaf, Lower, Upper, Tile, Cell, Keeps, SameDescent, Layout, cell_at, entry_over, root_at, IsActiveIn, IsCut, KeepsAllBut, KeepsElsewhere, MakesKeysIn, MakesNoKey, MakesNoNode, MakesOnly, is_child, IsCovered}
 use Rattle.vdb_tree.proofs.Blocks.{never}
 use Rattle.vdb_tree.proofs.Covered.{covered_by_block}
 use Rattle.vdb_tree.proofs.Levels.{coord_cases, tile_or_child}
@@ -128,9 +114,6 @@ module _ {V : Type 0} where
     | inl e ↦ subst (λ (i : Coord). IsSome (root_at old.root i)) (sym e) held
     | inr d ↦ subst (λ o. IsSome o) (table k d) h
   ]
-
-  pub keys_same : (old new : Layout V) → new.root ≡ old.root → MakesNoKey old new
-  keys_same old new same k h = rw same at h
 
   pub keys_twice : (old mid new : Layout V) → MakesNoKey old mid → MakesNoKey mid new → MakesNoKey old new
   keys_twice old mid new a b k h = a k (b k h)

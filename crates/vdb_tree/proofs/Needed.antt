@@ -1,19 +1,6 @@
 -- Which nodes and entries a tree must have, and which a least tree has.
-use Rattle.std.proofs.Common.{◌≡◌, ◌⊎◌, inl, inr, ℕ, Bool, true, refl, ap, ◌∙◌, IsTrue}
-use Rattle.std.specs.Prelude.{Option, Some, None, IsSome}
-use Rattle.vdb_coord.specs.Blocks.{key}
-use Rattle.vdb_coord.specs.Entries.{AreBits}
-use Rattle.vdb_coord.specs.declared.Bits.{Bits}
-use Rattle.vdb_coord.specs.declared.Coord.{Coord}
-use Rattle.vdb_coord.specs.declared.Level.{Level}
-use Rattle.vdb_coord.specs.declared.Level.TheVariants.{Leaf, Lower, Upper}
-use Rattle.vdb_node.specs.declared.Entry.{Entry}
-use Rattle.vdb_node.specs.declared.Entry.TheVariants.{Child, Tile}
-use Rattle.vdb_value.specs.declared.Cell.{Cell}
-use Rattle.vdb_tree.specs.Changes.{IsConstantBlock, IsNeeded}
-use Rattle.vdb_tree.specs.Layout.{Layout, entry_over, background_cell, root_at, root_entry}
-use Rattle.vdb_tree.specs.Paths.{is_child}
-use Rattle.vdb_tree.specs.Smallest.{HasNeeded, IsLeast}
+use Rattle.vdb_tree.proofs.Common.{◌≡◌, ◌⊎◌, inl, inr, ℕ, Bool, true, refl, ap, ◌∙◌, IsTrue, Option, Some, None, IsSome, key, AreBits, Bits, Coord, Level, Leaf, Lower, Upper, Entry, Child, Tile, Cell, IsConstantBlock, IsNeeded, Layout, entry_over, background_cell, root_at, root_entry, is_child, IsLeast}
+use Rattle.vdb_tree.specs.Smallest.{HasNeeded}
 use Rattle.vdb_tree.proofs.Blocks.{non_constant_block, non_constant_from, never, non_background_block, non_background_from}
 use Rattle.vdb_tree.proofs.Descents.{lower_by_block, root_by_block, tile_cell, tile_lower, tile_upper, upper_by_block}
 use Rattle.vdb_tree.proofs.Levels.{tile_or_child}

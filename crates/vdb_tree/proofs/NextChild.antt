@@ -1,30 +1,12 @@
 -- The next child of a node, in coordinates.
-use Rattle.std.proofs.Common.{◌≡◌, inl, inr, ℕ, ℤ, pos, ◌+◌, ◌*◌, ◌/◌, ◌%◌, ◌<◌, ◌≤◌, ◌^◌, ◌+ℤ◌, ◌*ℤ◌, true, false, List, length, arith, ap, refl, sym, subst, ◌∙◌}
-use Rattle.std.specs.Prelude.{Some, None, IsTrue, slice_index_or}
-use Rattle.std.proofs.lemmas.List.{get_or_default, get_or_past}
+use Rattle.vdb_tree.proofs.Common.{◌≡◌, inl, inr, ℕ, ℤ, pos, ◌+◌, ◌*◌, ◌<◌, ◌≤◌, ◌^◌, ◌+ℤ◌, true, false, List, length, arith, ap, refl, sym, subst, ◌∙◌, Some, None, IsTrue, slice_index_or, get_or_default, get_or_past, ints, block_number, entries, node_bits, offset, number_at, Box, everywhere, is_inside, Bits, Coord, Level, Leaf, Lower, Upper, corner, corner_of_entry, upper_from_lower, entries_is, offset_below, HasChild, IsNextChildAt, entry_count, Entry, Child, Tile, node_at, Cell, Layout, lower_entry, background_cell, root_entry, upper_entry, in_leaf, is_child, IsFirstLeaf, IsFrom, IsNextLower}
+use Rattle.std.proofs.Common.{◌/◌, ◌%◌, ◌*ℤ◌}
 use Rattle.std.proofs.lemmas.Nat.{pow_pos}
-use Rattle.std.proofs.lemmas.Int.{ints}
-use Rattle.vdb_coord.specs.Blocks.{block_number, entries, node_bits, offset}
-use Rattle.vdb_coord.specs.Components.{digit, first_of, number_at}
-use Rattle.vdb_coord.specs.Space.{Box, everywhere, is_inside}
-use Rattle.vdb_coord.specs.declared.Bits.{Bits}
-use Rattle.vdb_coord.specs.declared.Coord.{Coord}
-use Rattle.vdb_coord.specs.declared.Level.{Level}
-use Rattle.vdb_coord.specs.declared.Level.TheVariants.{Leaf, Lower, Upper}
+use Rattle.vdb_coord.specs.Components.{digit, first_of}
 use Rattle.vdb_coord.proofs.Digits.{digit_is, first_of_entry, number_zero}
 use Rattle.vdb_coord.proofs.Division.{rest, rest_of}
-use Rattle.vdb_coord.proofs.Loops.{corner}
-use Rattle.vdb_coord.proofs.Nesting.{corner_of_entry, upper_from_lower}
-use Rattle.vdb_coord.proofs.Positions.{entries_is, entry_box, index_positions, joined, offset_below, offset_is, sub_block_is}
-use Rattle.vdb_node.specs.Entries.{HasChild, IsNextChild, IsNextChildAt}
-use Rattle.vdb_node.specs.Nodes.{entry_count}
-use Rattle.vdb_node.specs.declared.Entry.{Entry}
-use Rattle.vdb_node.specs.declared.Entry.TheVariants.{Child, Tile}
-use Rattle.vdb_pool.specs.Contents.{node_at}
-use Rattle.vdb_value.specs.declared.Cell.{Cell}
-use Rattle.vdb_tree.specs.Layout.{Layout, lower_entry, background_cell, root_entry, upper_entry}
-use Rattle.vdb_tree.specs.Paths.{in_leaf, is_child}
-use Rattle.vdb_tree.specs.internal.Seeks.{IsFirstLeaf, IsFrom, IsNextLower}
+use Rattle.vdb_coord.proofs.Positions.{entry_box, index_positions, joined, offset_is, sub_block_is}
+use Rattle.vdb_node.specs.Entries.{IsNextChild}
 use Rattle.vdb_coord.proofs.BlockOrder.{later_in_lower}
 use Rattle.vdb_tree.proofs.Descents.{lower_node_entry, root_by_block, tile_lower, tile_upper, upper_by_block, upper_node_entry}
 use Rattle.vdb_tree.proofs.Levels.{tile_no_child, tile_or_child}
@@ -176,6 +158,3 @@ module _ {V : Type 0} (bits : Bits) (t : Layout V) where
 
   pub no_leaf_upper : (p : Coord) (from : ℕ) (c : Cell V) → upper_entry bits t p ≡ Tile c → IsFirstLeaf bits t (IsFrom bits Lower p from) None
   no_leaf_upper p from c e = λ q corner h. no_leaf_in_upper_tile p c e q h.block corner.leaf
-
-  pub no_lower_root : (p : Coord) (from : ℕ) (c : Cell V) → root_entry bits t p ≡ Tile c → IsFirstLeaf bits t (IsFrom bits Upper p from) None
-  no_lower_root p from c e = λ q corner h. no_leaf_in_root_tile p c e q h.block corner.leaf

@@ -1,22 +1,7 @@
 -- The walk to the next leaf, node by node and key by key.
-use Rattle.std.proofs.Common.{◌≡◌, ◌⊎◌, inl, inr, ℕ, ◌+◌, ◌<◌, ◌≤◌, true, false, arith, ap, refl, sym, subst, ◌∙◌}
-use Rattle.std.specs.Prelude.{Option, Some, None, IsSome, IsTrue, is_some}
-use Rattle.std.specs.Ordering.{is_gt, is_lt}
-use Rattle.std.specs.declared.cmp.Ordering.{Ordering}
-use Rattle.std.specs.declared.cmp.Ordering.TheVariants.{Less, Equal, Greater}
-use Rattle.vdb_coord.specs.Blocks.{block_cmp, is_past, key, offset}
-use Rattle.vdb_coord.specs.Space.{coord_cmp}
-use Rattle.vdb_coord.specs.declared.Bits.{Bits}
-use Rattle.vdb_coord.specs.declared.Coord.{Coord}
-use Rattle.vdb_coord.specs.declared.Level.TheVariants.{Lower, Upper}
-use Rattle.vdb_coord.proofs.Members.{coord_total}
-use Rattle.vdb_coord.proofs.Nesting.{lower_from_upper, upper_from_lower}
-use Rattle.vdb_tree.specs.Layout.{Layout, root_at}
-use Rattle.vdb_tree.specs.Leaves.{IsNextLeaf}
-use Rattle.vdb_tree.specs.Paths.{in_leaf}
-use Rattle.vdb_tree.specs.internal.Seeks.{IsFirstLeaf, IsFrom, IsKeyPast, IsLeafCorner, IsNextLower}
-use Rattle.vdb_tree.specs.Table.{IsNextKey, IsPast}
-use Rattle.vdb_coord.proofs.BlockOrder.{from_key, from_lower, from_upper, key_equal, not_after, precedes, same_upper_offset}
+use Rattle.vdb_tree.proofs.Common.{◌≡◌, ◌⊎◌, inl, inr, ℕ, ◌+◌, ◌<◌, ◌≤◌, true, false, arith, ap, refl, sym, subst, ◌∙◌, Option, Some, None, IsSome, IsTrue, is_some, is_gt, is_lt, Ordering, Less, Equal, Greater, block_cmp, key, offset, coord_cmp, Bits, Coord, Lower, Upper, coord_total, lower_from_upper, upper_from_lower, Layout, root_at, IsNextLeaf, in_leaf, IsFirstLeaf, IsFrom, IsKeyPast, IsLeafCorner, IsNextLower, IsNextKey, IsPast, from_key, from_lower, from_upper, key_equal}
+use Rattle.vdb_coord.specs.Blocks.{is_past}
+use Rattle.vdb_coord.proofs.BlockOrder.{not_after, precedes, same_upper_offset}
 use Rattle.vdb_tree.proofs.NextChild.{leaf_below_lower, leaf_below_upper}
 use Rattle.vdb_tree.proofs.Seeking.{first_of_early, first_of_late}
 
@@ -83,10 +68,6 @@ module _ {V : Type 0} (bits : Bits) (t : Layout V) where
           left = λ q corner h. elim (upper_whole q corner h) [ inl e ↦ absurd (none q corner e) | inr l ↦ l.from_on ];
         }
 
-  -- before the first entry
-  pub upper_start : (p : Coord) (from : ℕ) → IsUpperPassed p from from
-  upper_start p from = record { start = omega arith; left = λ q corner h. h.from_on }
-
   -- no lower node is left
   pub upper_end : (p : Coord) (from next : ℕ) → IsUpperPassed p from next → IsNextLower bits t p next None → IsFirstLeaf bits t (IsFrom bits Upper p from) None
   upper_end p from next passed none = λ q corner h.
@@ -150,17 +131,6 @@ module _ {V : Type 0} (bits : Bits) (t : Layout V) where
         past_further : (o : Option Coord) (l : Coord) → IsPast o k → coord_cmp k l ≡ Less → IsPast o l
         past_further None l h later = tt
         past_further (Some a) l h later = coord_total.trans a k l h later
-
-  pub table_start : (after : Option Coord) → IsTablePassed after after
-  table_start after = record { start = λ k h. h; left = λ q corner h. h }
-
-  -- no key is left
-  pub table_end : (after passed : Option Coord) → IsTablePassed after passed → IsNextKey t.root passed None → IsFirstLeaf bits t (IsKeyPast bits after) None
-  table_end after passed done none = λ q corner h. unheld _ (key_of_leaf q corner.leaf) (none (key bits q) (done.left q corner h))
-    where
-      unheld : {A : Type 0} (o : Option A) → IsSome o → o ≡ None → ⊥
-      unheld (Some x) h e = cc
-      unheld None h e = false_true h
 
   -- ---- past a coordinate
 

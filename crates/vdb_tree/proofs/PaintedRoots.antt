@@ -1,23 +1,6 @@
 -- Painting upper extent after upper extent, in the order of keys.
-use Rattle.std.proofs.Common.{◌≡◌, ◌≢◌, ◌⊎◌, inl, inr, false, refl, sym, ap, ◌∙◌, IsTrue}
-use Rattle.std.specs.Prelude.{Option, Some, None, IsSome}
-use Rattle.vdb_coord.specs.Blocks.{key}
-use Rattle.vdb_coord.specs.Boxes.{meets}
-use Rattle.vdb_coord.specs.Space.{Box, coord_cmp, is_inside}
-use Rattle.vdb_coord.specs.declared.Bits.{Bits}
-use Rattle.vdb_coord.specs.declared.Coord.{Coord}
-use Rattle.vdb_coord.specs.declared.Level.{Level}
-use Rattle.vdb_coord.specs.declared.Level.TheVariants.{Leaf, Lower, Upper}
+use Rattle.vdb_tree.proofs.Common.{◌≡◌, ◌≢◌, ◌⊎◌, inl, inr, false, refl, sym, ap, ◌∙◌, IsTrue, Option, Some, None, IsSome, key, meets, Box, coord_cmp, is_inside, Bits, Coord, Level, Leaf, Lower, Upper, Tile, Cell, KeepsHead, SameDescent, fill, Layout, cell_at, entry_over, field_of, background_cell, root_at, ArePainted, AreSplit, IsPainted, KeepsOutside, IsCovered, IsSplit, IsNextMet, IsPast}
 use Rattle.vdb_coord.proofs.Meeting.{meets_from_common}
-use Rattle.vdb_node.specs.declared.Entry.TheVariants.{Tile}
-use Rattle.vdb_value.specs.declared.Cell.{Cell}
-use Rattle.vdb_tree.specs.Changes.{KeepsHead, SameDescent}
-use Rattle.vdb_tree.specs.Field.{fill}
-use Rattle.vdb_tree.specs.Layout.{Layout, cell_at, entry_over, field_of, background_cell, root_at}
-use Rattle.vdb_tree.specs.internal.Paints.{ArePainted, AreSplit, IsPainted, KeepsOutside}
-use Rattle.vdb_tree.specs.SplitBox.{IsCovered, IsSplit}
-use Rattle.vdb_tree.specs.Capacity.{IsNextMet}
-use Rattle.vdb_tree.specs.Table.{IsPast}
 use Rattle.vdb_tree.proofs.Blocks.{never}
 use Rattle.vdb_tree.proofs.Equations.{same_field}
 use Rattle.vdb_tree.proofs.Fields.{cell_inside}

@@ -1,20 +1,11 @@
 -- Voxels of a leaf that are painted.
-use Rattle.std.proofs.Common.{◌≡◌, ◌⊎◌, inl, inr, ℕ, ℤ, pos, ◌+◌, ◌<◌, ◌≤◌, ◌+ℤ◌, ◌<ℤ◌, ◌≤ℤ◌, SFits, arith, of_z, to_z, w32, true, false, refl, sym, ap, subst, ◌∙◌, IsTrue, Some, None}
+use Rattle.vdb_tree.proofs.Common.{◌≡◌, ◌⊎◌, inl, inr, ℕ, ℤ, pos, ◌+◌, ◌<◌, ◌≤◌, ◌+ℤ◌, ◌<ℤ◌, ◌≤ℤ◌, SFits, arith, of_z, to_z, w32, true, false, refl, sym, ap, subst, ◌∙◌, IsTrue, Some, None, ints, to_z-of_z, block_number, offset, number_at, Box, coord, is_box, is_inside, IsBefore, IsBlockBefore, IsNextBlock, Bits, Coord, Leaf, which_before, entry_number_leaf, min_inside, none_before, cell_in, Cell, IsRun, PaintsVoxels}
 use lib.Signed.{lt_z}
-use Rattle.std.proofs.lemmas.Int.{ints, to_z-of_z}
-use Rattle.vdb_coord.specs.Blocks.{block_number, offset}
-use Rattle.vdb_coord.specs.Components.{last_of, number_at}
-use Rattle.vdb_coord.specs.Space.{Box, coord, is_box, is_inside}
-use Rattle.vdb_coord.specs.Walk.{IsBefore, IsBlockBefore, IsNextBlock}
-use Rattle.vdb_coord.specs.declared.Bits.{Bits}
-use Rattle.vdb_coord.specs.declared.Coord.{Coord}
-use Rattle.vdb_coord.specs.declared.Level.TheVariants.{Leaf}
-use Rattle.vdb_coord.proofs.BlockOrder.{before_not_past, before_not_same, which_before}
-use Rattle.vdb_coord.proofs.Nesting.{entry_number_leaf}
-use Rattle.vdb_coord.proofs.Walk.{min_inside, next_x, next_y, next_z, no_next, none_before}
-use Rattle.vdb_node.specs.Leaf.{cell_in, FillsRun, Leaf as LeafOf}
-use Rattle.vdb_value.specs.declared.Cell.{Cell}
-use Rattle.vdb_tree.specs.internal.Paints.{IsRun, PaintsVoxels, voxels}
+use Rattle.vdb_coord.specs.Components.{last_of}
+use Rattle.vdb_coord.proofs.BlockOrder.{before_not_past, before_not_same}
+use Rattle.vdb_coord.proofs.Walk.{next_x, next_y, next_z, no_next}
+use Rattle.vdb_node.specs.Leaf.{FillsRun, Leaf as LeafOf}
+use Rattle.vdb_tree.specs.internal.Paints.{voxels}
 use Rattle.vdb_tree.proofs.Pools.{below_or}
 use Rattle.vdb_tree.proofs.VoxelRuns.{in_run_of_offset, offset_in_run}
 

@@ -1,19 +1,6 @@
 -- What is painted of a box, block by block.
-use Rattle.std.proofs.Common.{◌≡◌, ◌≢◌, ◌⊎◌, inl, inr, ℕ, true, refl, sym, ap, ◌∙◌, IsTrue, Some, None}
-use Rattle.vdb_coord.specs.Blocks.{block_number}
-use Rattle.vdb_coord.specs.Space.{Box, is_box, is_inside}
-use Rattle.vdb_coord.specs.Walk.{IsBlockBefore, IsNextBlock}
-use Rattle.vdb_coord.specs.declared.Bits.{Bits}
-use Rattle.vdb_coord.specs.declared.Coord.{Coord}
-use Rattle.vdb_coord.specs.declared.Level.{Level}
-use Rattle.vdb_coord.specs.declared.Level.TheVariants.{Leaf, Lower, Upper}
-use Rattle.vdb_coord.proofs.Walk.{min_inside, none_before}
-use Rattle.vdb_node.specs.declared.Entry.TheVariants.{Child, Tile}
-use Rattle.vdb_value.specs.declared.Cell.{Cell}
-use Rattle.vdb_tree.specs.Changes.{Fills, SameDescent}
-use Rattle.vdb_tree.specs.Layout.{Layout, cell_at, entry_over}
-use Rattle.vdb_tree.specs.internal.Paints.{ArePainted, AreSplit, IsPainted, KeepsOutside}
-use Rattle.vdb_tree.specs.SplitBox.{IsCovered, IsTiledTo}
+use Rattle.vdb_tree.proofs.Common.{◌≡◌, ◌≢◌, ◌⊎◌, inl, inr, ℕ, true, refl, sym, ap, ◌∙◌, IsTrue, Some, None, block_number, Box, is_box, is_inside, IsBlockBefore, IsNextBlock, Bits, Coord, Level, Leaf, Lower, Upper, min_inside, none_before, Child, Tile, Cell, Fills, SameDescent, Layout, cell_at, entry_over, ArePainted, AreSplit, IsPainted, KeepsOutside, IsCovered}
+use Rattle.vdb_tree.specs.SplitBox.{IsTiledTo}
 use Rattle.vdb_tree.proofs.Covered.{covered_by_block, covered_inside, leaf_covered, lower_covered}
 use Rattle.vdb_tree.proofs.Descents.{tile_lower, tile_upper}
 use Rattle.vdb_tree.proofs.Levels.{coord_cases, tile_no_child}

@@ -1,30 +1,11 @@
 -- Walks over the pairs of two trees: starts, and what lies between them.
-use Rattle.std.proofs.Common.{◌≡◌, ◌⊎◌, inl, inr, Bool, true, false, ap, refl, subst, sym, ◌∙◌}
-use Rattle.std.specs.Ordering.{is_lt, ordering_reverse}
-use Rattle.std.specs.declared.cmp.Ordering.{Ordering}
-use Rattle.std.specs.declared.cmp.Ordering.TheVariants.{Less, Equal, Greater}
-use Rattle.std.specs.Prelude.{◌<◌, Option, Some, None, IfSome, IsTrue}
-use Rattle.vdb_coord.specs.Blocks.{block, block_around, block_cmp, block_number, key}
-use Rattle.vdb_coord.specs.Entries.{AreBits}
-use Rattle.vdb_coord.specs.Order.{ComesBefore, IsFirstPast, IsNextCoord, IsUpToBlock, coordinates_past}
-use Rattle.vdb_coord.specs.Space.{Box, everywhere, is_inside}
-use Rattle.vdb_coord.specs.declared.Bits.{Bits}
-use Rattle.vdb_coord.specs.declared.Coord.{Coord}
-use Rattle.vdb_coord.specs.declared.Level.{Level}
-use Rattle.vdb_coord.specs.declared.Level.TheVariants.{Leaf, Lower, Upper}
-use Rattle.vdb_coord.proofs.BlockOrder.{comes_on, contiguous, not_before_min, not_both, not_itself}
-use Rattle.vdb_coord.proofs.InRange.{block_in_range, number_of_corner}
-use Rattle.vdb_coord.proofs.Nesting.{block_exact, block_total, inside_numbered, lower_from_leaf, number_in_block, upper_from_lower}
+use Rattle.vdb_tree.proofs.Common.{◌≡◌, ◌⊎◌, inl, inr, Bool, true, false, ap, refl, subst, sym, ◌∙◌, is_lt, ordering_reverse, Ordering, Less, Equal, Greater, ◌<◌, Option, Some, None, IfSome, IsTrue, block, block_around, block_cmp, block_number, key, AreBits, ComesBefore, IsFirstPast, IsNextCoord, IsUpToBlock, coordinates_past, Box, everywhere, is_inside, Bits, Coord, Level, Leaf, Lower, Upper, comes_on, contiguous, not_before_min, not_both, not_itself, block_in_range, number_of_corner, inside_numbered, lower_from_leaf, number_in_block, upper_from_lower, Cell, Layout, background_cell, cell_at, field_of, IsPairWalk, PassesPairs, YieldsPair, IsLeafAround, IsEnd, IsStart, IsStartAfter, IsSkipped, end_level, is_left, left_count, End, Background}
+use Rattle.vdb_coord.proofs.Nesting.{block_exact, block_total}
 use Rattle.vdb_node.specs.Leaf.{Leaf as LeafOf}
-use Rattle.vdb_value.specs.declared.Cell.{Cell}
-use Rattle.vdb_tree.specs.Layout.{Layout, background_cell, cell_at, field_of}
 use Rattle.vdb_tree.specs.internal.PairBlocks.{IsOver}
-use Rattle.vdb_tree.specs.Pairs.{IsBackgroundInBoth, IsPairStart, IsPairWalk, PassesPairs, TreePairWalk, YieldsPair, lower_level, pair_level}
-use Rattle.vdb_tree.specs.Leaves.{IsLeafAround}
-use Rattle.vdb_tree.specs.Parts.{IsEnd, IsPartOfLeaf, IsStart, IsStartAfter, IsSkipped, end_level, is_left, left_count}
-use Rattle.vdb_tree.specs.declared.queries.ends.End.{End}
+use Rattle.vdb_tree.specs.Pairs.{IsBackgroundInBoth, IsPairStart, TreePairWalk, lower_level, pair_level}
+use Rattle.vdb_tree.specs.Parts.{IsPartOfLeaf}
 use Rattle.vdb_tree.specs.declared.queries.ends.End.TheVariants.{Tile as EndTile}
-use Rattle.vdb_tree.specs.declared.queries.parts.Skip.TheVariants.{Background}
 use Rattle.vdb_tree.proofs.Fields.{cell_inside}
 use Rattle.vdb_tree.proofs.PartStarts.{in_upper, same_end}
 use Rattle.vdb_tree.proofs.PieceCells.{tile_block}

@@ -1,20 +1,5 @@
 -- Walks over the parts of a tree that begin at the part around a coordinate.
-use Rattle.std.proofs.Common.{◌≡◌, inl, inr, Bool, true, false, ap, refl, subst, sym, ◌∙◌}
-use Rattle.std.specs.Prelude.{not, Some, IsTrue}
-use Rattle.std.specs.Ordering.{is_lt}
-use Rattle.vdb_coord.specs.Blocks.{block_cmp, block_number}
-use Rattle.vdb_coord.specs.Order.{ComesBefore}
-use Rattle.vdb_coord.specs.Space.{Box, is_inside}
-use Rattle.vdb_coord.specs.declared.Bits.{Bits}
-use Rattle.vdb_coord.specs.declared.Coord.{Coord}
-use Rattle.vdb_coord.specs.declared.Level.{Level}
-use Rattle.vdb_coord.specs.declared.Level.TheVariants.{Leaf, Lower, Upper}
-use Rattle.vdb_coord.proofs.BlockOrder.{comes_on, not_before_min, which_first}
-use Rattle.vdb_coord.proofs.Nesting.{lower_from_leaf, upper_from_lower}
-use Rattle.vdb_node.specs.declared.Entry.{Entry}
-use Rattle.vdb_node.specs.declared.Entry.TheVariants.{Child, Tile}
-use Rattle.vdb_tree.specs.Layout.{Layout, root_entry, upper_entry}
-use Rattle.vdb_tree.specs.Parts.{IsStart, end_level, if_tile, is_left}
+use Rattle.vdb_tree.proofs.Common.{◌≡◌, inl, inr, Bool, true, false, ap, refl, subst, sym, ◌∙◌, not, Some, IsTrue, is_lt, block_cmp, block_number, ComesBefore, Box, is_inside, Bits, Coord, Level, Leaf, Lower, Upper, comes_on, not_before_min, which_first, lower_from_leaf, upper_from_lower, Entry, Child, Tile, Layout, root_entry, upper_entry, IsStart, end_level, if_tile, is_left}
 use Rattle.vdb_tree.proofs.Descents.{root_by_block, upper_by_block}
 
 -- what isn't left comes before the start

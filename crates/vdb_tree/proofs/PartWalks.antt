@@ -1,28 +1,8 @@
 -- Walks over the parts of a tree: starts, and what lies between them.
-use Rattle.std.proofs.Common.{◌≡◌, ◌⊎◌, inl, inr, ℕ, ◌<◌, Bool, true, false, arith, ap, refl, sym, subst, ◌∙◌}
-use Rattle.std.specs.Prelude.{not, ◌&&◌, if◌then◌else◌, Option, Some, None, IfNone, IfSome, IsSome, IsTrue, is_some}
-use Rattle.std.specs.Ordering.{is_gt, is_lt, ordering_reverse}
-use Rattle.std.specs.declared.cmp.Ordering.{Ordering}
-use Rattle.std.specs.declared.cmp.Ordering.TheVariants.{Less, Equal, Greater}
-use Rattle.vdb_coord.specs.Blocks.{block_around, block_cmp, block_number, key}
-use Rattle.vdb_coord.specs.Order.{ComesBefore, IsUpToBlock, coordinates_past}
-use Rattle.vdb_coord.specs.Space.{Box, coord_cmp, everywhere, is_inside}
-use Rattle.vdb_coord.specs.declared.Bits.{Bits}
-use Rattle.vdb_coord.specs.declared.Coord.{Coord}
-use Rattle.vdb_coord.specs.declared.Level.{Level}
-use Rattle.vdb_coord.specs.declared.Level.TheVariants.{Leaf, Lower, Upper}
-use Rattle.vdb_coord.proofs.BlockOrder.{comes_on, contiguous, fewer_past, from_key, key_equal, not_before_min, not_both, not_past_max, which_first}
-use Rattle.vdb_coord.proofs.Members.{coord_total}
-use Rattle.vdb_coord.proofs.Nesting.{inside_numbered, lower_from_leaf, number_in_block, upper_from_lower}
-use Rattle.vdb_node.specs.declared.Entry.{Entry}
-use Rattle.vdb_node.specs.declared.Entry.TheVariants.{Child, Tile}
-use Rattle.vdb_tree.specs.internal.Jumps.{IsJumpAt, IsLast}
-use Rattle.vdb_tree.specs.Layout.{Layout, cell_at, entry_over, field_of, background_cell, root_at, root_entry, upper_entry}
-use Rattle.vdb_tree.specs.Parts.{IsPartAround, IsStart, IsStartAfter, IsSkipped, IsWalk, Passes, TreeWalk, YieldsBox, end_level, if_tile, is_left, left_count}
-use Rattle.vdb_tree.specs.declared.queries.parts.Skip.{Skip}
-use Rattle.vdb_tree.specs.declared.queries.parts.Skip.TheVariants.{Absent, Background, Inactive}
-use Rattle.vdb_value.specs.declared.Cell.{Cell}
-use Rattle.vdb_tree.specs.Table.{IsNextKey}
+use Rattle.vdb_tree.proofs.Common.{◌≡◌, ◌⊎◌, inl, inr, ℕ, ◌<◌, Bool, true, false, arith, ap, refl, sym, subst, ◌∙◌, not, ◌&&◌, if◌then◌else◌, Option, Some, None, IfNone, IfSome, IsSome, IsTrue, is_some, is_gt, is_lt, ordering_reverse, Ordering, Less, Equal, Greater, block_around, block_cmp, block_number, key, ComesBefore, IsUpToBlock, coordinates_past, Box, coord_cmp, everywhere, is_inside, Bits, Coord, Level, Leaf, Lower, Upper, comes_on, contiguous, from_key, key_equal, not_before_min, not_both, which_first, coord_total, inside_numbered, lower_from_leaf, number_in_block, upper_from_lower, Entry, Child, Tile, IsJumpAt, IsLast, Layout, cell_at, entry_over, field_of, background_cell, root_at, root_entry, upper_entry, IsStart, IsStartAfter, IsSkipped, IsWalk, Passes, TreeWalk, end_level, if_tile, is_left, left_count, Skip, Background, Inactive, Cell, IsNextKey}
+use Rattle.vdb_coord.proofs.BlockOrder.{fewer_past, not_past_max}
+use Rattle.vdb_tree.specs.Parts.{IsPartAround, YieldsBox}
+use Rattle.vdb_tree.specs.declared.queries.parts.Skip.TheVariants.{Absent}
 use Rattle.vdb_tree.proofs.Descents.{root_by_block, tile_cell, tile_lower, tile_upper, upper_by_block}
 use Rattle.vdb_tree.proofs.Levels.{bool_cases}
 use Rattle.vdb_tree.proofs.PieceCells.{tile_block}
@@ -95,9 +75,6 @@ upper_not_leaf e = cc
 
 lower_not_leaf : Lower ≡ Leaf → ⊥
 lower_not_leaf e = cc
-
-leaf_not_upper : Leaf ≡ Upper → ⊥
-leaf_not_upper e = cc
 
 children_if_leaf : {V : Type 0} (e d : Entry V) → if_tile e Upper (if_tile d Lower Leaf) ≡ Leaf → ((s : ℕ) × (e ≡ Child s)) × ((s : ℕ) × (d ≡ Child s))
 children_if_leaf (Tile c) d h = absurd (upper_not_leaf h)
@@ -184,10 +161,6 @@ module _ {V : Type 0} (bits : Bits) (t : Layout V) where
 
   pub lower_none : (box : Box) (skip : Skip) (p : Coord) → IsLast bits t skip box Upper Lower p → (found : Option Coord) → IsStartAfter bits t box skip Upper p found → IsStartAfter bits t box skip Lower p found
   lower_none box skip p = jump_outer box Upper Lower skip p (upper_from_lower bits)
-
-  -- the end level of a leaf isn't upper
-  pub leaf_below : (p : Coord) → end_level bits t p ≡ Leaf → end_level bits t p ≡ Upper → ⊥
-  leaf_below p e u = leaf_not_upper (sym e ∙ u)
 
   -- ---- under later keys
 
@@ -316,13 +289,6 @@ module _ {V : Type 0} (bits : Bits) (t : Layout V) where
       → (q : Coord) → block_number bits level q ≡ block_number bits level p → IsSkipped bits Inactive t q
   inactive_skipped level p cell tile inactive q e =
       on_either (is_inside everywhere q) (cell_at bits t q) (background_cell t) (ap (λ (c : Cell V). c.on) (tile_block bits t level p q cell tile e) ∙ inactive) refl
-
-  -- a walk may pass over an upper extent without an entry
-  pub none_skipped : (level : Level) (p : Coord) → level ≡ Upper → root_at t.root (key bits p) ≡ None
-      → (q : Coord) → block_number bits level q ≡ block_number bits level p → IsSkipped bits Absent t q
-  none_skipped level p top none q e =
-      let same : key bits q ≡ key bits p = subst (λ (l : Level). block_number bits l q ≡ block_number bits l p) top e in
-      ap (root_at t.root) same ∙ none
 
   -- what the box has of a block, by two clauses of a contract
   pub part_is : (box part : Box) (level : Level) (p : Coord) → end_level bits t p ≡ level

@@ -1,19 +1,6 @@
 -- What a pass over the children of a node has done.
-use Rattle.std.proofs.Common.{◌≡◌, ◌≢◌, ◌⊎◌, inl, inr, ℕ, ◌+◌, ◌<◌, ◌≤◌, refl, sym, ap, ◌∙◌, arith}
-use Rattle.std.specs.Prelude.{◌↔◌, IfSome, Option, Some, None}
-use Rattle.vdb_coord.specs.Blocks.{block_number, entries, offset}
-use Rattle.vdb_coord.specs.Entries.{entry_number}
-use Rattle.vdb_coord.specs.declared.Bits.{Bits}
-use Rattle.vdb_coord.specs.declared.Coord.{Coord}
-use Rattle.vdb_coord.specs.declared.Level.{Level}
-use Rattle.vdb_coord.specs.declared.Level.TheVariants.{Leaf, Lower, Upper}
-use Rattle.vdb_coord.proofs.Nesting.{block_from_entry, corner_of_entry, entry_from_offset, offset_from_entry}
-use Rattle.vdb_node.specs.declared.Entry.{Entry}
-use Rattle.vdb_node.specs.declared.Entry.TheVariants.{Child, Tile}
-use Rattle.vdb_value.specs.declared.Cell.{Cell}
-use Rattle.vdb_tree.specs.Changes.{AreNeeded, Fills, IsConstantBlock, IsNonConstantBlock, IsNeeded, IsNeededTo, Keeps, KeepsHead, KeepsUppers, PassesTo, SameDescent}
-use Rattle.vdb_tree.specs.internal.Children.{IsChildless, IsNextCornerAt, IsTiled}
-use Rattle.vdb_tree.specs.Layout.{Layout, cell_at, entry_over, lower_entry, root_entry, upper_entry}
+use Rattle.vdb_tree.proofs.Common.{◌≡◌, ◌≢◌, ◌⊎◌, inl, inr, ℕ, ◌+◌, ◌<◌, ◌≤◌, refl, sym, ap, ◌∙◌, arith, ◌↔◌, IfSome, Option, Some, None, block_number, entries, offset, entry_number, Bits, Coord, Level, Leaf, Lower, Upper, block_from_entry, corner_of_entry, entry_from_offset, offset_from_entry, Entry, Child, Tile, Cell, Fills, IsConstantBlock, IsNonConstantBlock, IsNeeded, IsNeededTo, Keeps, KeepsHead, KeepsUppers, PassesTo, SameDescent, IsChildless, IsNextCornerAt, IsTiled, Layout, cell_at, entry_over, lower_entry, root_entry, upper_entry}
+use Rattle.vdb_tree.specs.Changes.{AreNeeded}
 use Rattle.vdb_tree.proofs.Descents.{lower_by_block, root_by_block, tile_cell, tile_lower, tile_upper, upper_by_block}
 use Rattle.vdb_tree.proofs.Levels.{coord_cases, tile_no_child, tile_or_child}
 

@@ -1,21 +1,8 @@
 -- Paths that are shared by coordinates of one block.
-use Rattle.std.proofs.Common.{◌≡◌, false, true, refl, sym, ◌∙◌, inl, inr}
-use Rattle.vdb_coord.specs.Blocks.{block_number}
-use Rattle.vdb_coord.specs.Space.{coord_eq}
-use Rattle.vdb_coord.specs.declared.Bits.{Bits}
-use Rattle.vdb_coord.specs.declared.Coord.{Coord}
-use Rattle.vdb_coord.specs.declared.Level.TheVariants.{Leaf, Lower, Upper}
-use Rattle.vdb_coord.proofs.Members.{coord_exact}
-use Rattle.vdb_coord.proofs.Nesting.{lower_from_leaf, upper_from_lower}
+use Rattle.vdb_tree.proofs.Common.{◌≡◌, false, true, refl, sym, ◌∙◌, inl, inr, block_number, coord_eq, Bits, Coord, Leaf, Lower, Upper, coord_exact, lower_from_leaf, upper_from_lower, Entry, Contents, List, Empty, ToUpper, ToLower, ToLeaf, Layout, lower_entry, root_entry, upper_entry, IsWhole, Lives, TreePath}
 use Rattle.vdb_node.specs.Leaf.{Leaf as LeafOf}
-use Rattle.vdb_node.specs.declared.Entry.{Entry}
-use Rattle.vdb_node.specs.declared.Entry.TheVariants.{Child}
-use Rattle.vdb_pool.specs.Contents.{Contents}
 use Rattle.vdb_pool.specs.declared.place.Place.{Place}
-use Rattle.std.specs.Prelude.{List}
-use Rattle.vdb_tree.specs.declared.path.PathOf.TheVariants.{Empty, ToUpper, ToLower, ToLeaf}
-use Rattle.vdb_tree.specs.Layout.{Layout, lower_entry, root_entry, upper_entry}
-use Rattle.vdb_tree.specs.Paths.{IsChildAt, IsWhole, Lives, TreePath, common, common_lower, common_upper, ends_in_leaf}
+use Rattle.vdb_tree.specs.Paths.{IsChildAt, common, common_lower, common_upper, ends_in_leaf}
 use Rattle.vdb_tree.proofs.Descents.{lower_by_block, root_by_block, upper_by_block}
 use Rattle.vdb_tree.proofs.Levels.{bool_cases}
 

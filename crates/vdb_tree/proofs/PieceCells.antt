@@ -1,19 +1,7 @@
 -- The cells of a tile's block, and of a box of one coordinate.
-use Rattle.std.proofs.Common.{◌≡◌, ℤ, IsTrue, true, ap, subst, ◌∙◌, arith}
-use Rattle.std.proofs.lemmas.Int.{ints}
-use Rattle.vdb_coord.specs.Blocks.{block_around, block_number}
-use Rattle.vdb_coord.specs.Entries.{AreBits}
-use Rattle.vdb_coord.specs.Space.{Box, everywhere, is_between, is_inside}
-use Rattle.vdb_coord.specs.declared.Bits.{Bits}
-use Rattle.vdb_coord.specs.declared.Coord.{Coord}
-use Rattle.vdb_coord.specs.declared.Level.{Level}
-use Rattle.vdb_coord.specs.declared.Level.TheVariants.{Leaf, Lower, Upper}
+use Rattle.vdb_tree.proofs.Common.{◌≡◌, ℤ, IsTrue, true, ap, subst, ◌∙◌, arith, ints, block_around, block_number, AreBits, Box, everywhere, is_inside, Bits, Coord, Level, Leaf, Lower, Upper, block_in_range, number_in_block, Tile, Cell, Layout, cell_at, entry_over, field_of}
+use Rattle.vdb_coord.specs.Space.{is_between}
 use Rattle.vdb_coord.proofs.Boxes.{three}
-use Rattle.vdb_coord.proofs.InRange.{block_in_range}
-use Rattle.vdb_coord.proofs.Nesting.{number_in_block}
-use Rattle.vdb_node.specs.declared.Entry.TheVariants.{Tile}
-use Rattle.vdb_value.specs.declared.Cell.{Cell}
-use Rattle.vdb_tree.specs.Layout.{Layout, cell_at, entry_over, field_of}
 use Rattle.vdb_tree.proofs.Descents.{lower_by_block, root_by_block, tile_cell, tile_lower, tile_upper, upper_by_block}
 use Rattle.vdb_tree.proofs.Fields.{cell_inside}
 

@@ -1,27 +1,8 @@
 -- Nodes made where another tree has nodes: one after another, in a node and in the root table.
-use Rattle.std.proofs.Common.{◌≡◌, ◌⊎◌, inl, inr, ℕ, ◌+◌, ◌-◌, ◌<◌, ◌≤◌, false, refl, sym, ap, subst, ◌∙◌, arith, IsTrue, Option}
-use Rattle.std.specs.Prelude.{IfSome, Some, None, IsSome}
-use Rattle.vdb_coord.specs.Blocks.{block_number, entries, key, offset}
-use Rattle.vdb_coord.specs.Entries.{entry_number}
-use Rattle.vdb_coord.specs.Space.{coord_cmp}
-use Rattle.vdb_coord.specs.declared.Bits.{Bits}
-use Rattle.vdb_coord.specs.declared.Coord.{Coord}
-use Rattle.vdb_coord.specs.declared.Level.{Level}
-use Rattle.vdb_coord.specs.declared.Level.TheVariants.{Leaf, Lower, Upper}
-use Rattle.vdb_coord.proofs.Nesting.{corner_of_entry, entry_from_offset}
-use Rattle.vdb_coord.proofs.Positions.{offset_below}
-use Rattle.vdb_node.specs.declared.Entry.TheVariants.{Child, Tile}
-use Rattle.vdb_value.specs.declared.Cell.{Cell}
-use Rattle.vdb_tree.specs.Changes.{AddsNodes}
-use Rattle.vdb_tree.specs.internal.Children.{IsChildless, IsNextCorner, IsNextCornerAt}
-use Rattle.vdb_tree.specs.internal.Pairing.{IsIdleAt, IsRefinedFor, made}
+use Rattle.vdb_tree.proofs.Common.{◌≡◌, ◌⊎◌, inl, inr, ℕ, ◌+◌, ◌-◌, ◌<◌, ◌≤◌, false, refl, sym, ap, subst, ◌∙◌, arith, IsTrue, Option, IfSome, Some, None, IsSome, block_number, entries, key, offset, entry_number, coord_cmp, Bits, Coord, Level, Leaf, Lower, Upper, corner_of_entry, entry_from_offset, offset_below, Child, Tile, Cell, AddsNodes, IsChildless, IsNextCornerAt, IsRefinedFor, made, Layout, background_cell, entry_over, lower_entry, root_at, root_entry, upper_entry, MakesOnly, is_child, IsNextKey, IsPast, StateRule, Unite, Subtract, Intersect}
+use Rattle.vdb_tree.specs.internal.Children.{IsNextCorner}
+use Rattle.vdb_tree.specs.internal.Pairing.{IsIdleAt}
 use Rattle.vdb_tree.specs.internal.Refining.{IsRefinable, IsRefinedAt, IsRefinedTo, MakesNode, Refines}
-use Rattle.vdb_tree.specs.Layout.{Layout, background_cell, entry_over, lower_entry, root_at, root_entry, upper_entry}
-use Rattle.vdb_tree.specs.Nodes.{MakesOnly}
-use Rattle.vdb_tree.specs.Paths.{is_child}
-use Rattle.vdb_tree.specs.Table.{IsNextKey, IsPast}
-use Rattle.vdb_tree.specs.declared.pairs.StateRule.{StateRule}
-use Rattle.vdb_tree.specs.declared.pairs.StateRule.TheVariants.{Unite, Subtract, Intersect}
 use Rattle.vdb_tree.proofs.Blocks.{never}
 use Rattle.vdb_tree.proofs.Descents.{root_by_block, tile_lower, tile_upper, upper_by_block}
 use Rattle.vdb_tree.proofs.Levels.{coord_cases, same_tile, some_held, tile_no_child, tile_or_child}

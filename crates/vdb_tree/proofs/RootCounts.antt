@@ -1,26 +1,6 @@
 -- A walk over the keys of the table that counts the upper extents that hold anything but the background.
-use Rattle.std.proofs.Common.{◌≡◌, ◌⊎◌, inl, inr, ℕ, ◌+◌, ◌≤◌, Bool, true, false, List, [], ◌∷◌, length, arith, refl, sym, ap, subst, IsTrue}
-use Rattle.std.specs.Prelude.{◌↔◌, Option, Some, None, IsSome}
+use Rattle.vdb_tree.proofs.Common.{◌≡◌, ◌⊎◌, inl, inr, ℕ, ◌+◌, ◌≤◌, Bool, true, false, List, [], ◌∷◌, length, arith, refl, sym, ap, subst, IsTrue, ◌↔◌, Option, Some, None, IsSome, is_gt, Ordering, Less, Equal, Greater, is_member, block, block_number, block_numbers, AreBits, coord_cmp, coord_eq, everywhere, is_inside, Bits, Coord, Upper, not_true, coord_exact, coord_equiv, Entry, IsConstantBlock, Layout, field_of, background_cell, root_at, is_background, roots, IsSound, IsNextKey, IsPast, key_equal, less_apart}
 use Rattle.std.specs.List.{IsDistinct}
-use Rattle.std.specs.Ordering.{is_gt}
-use Rattle.std.specs.declared.cmp.Ordering.{Ordering}
-use Rattle.std.specs.declared.cmp.Ordering.TheVariants.{Less, Equal, Greater}
-use Rattle.std.specs.Set.{is_member}
-use Rattle.vdb_coord.specs.Blocks.{block, block_number, block_numbers}
-use Rattle.vdb_coord.specs.Entries.{AreBits}
-use Rattle.vdb_coord.specs.Space.{coord_cmp, coord_eq, everywhere, is_inside}
-use Rattle.vdb_coord.specs.declared.Bits.{Bits}
-use Rattle.vdb_coord.specs.declared.Coord.{Coord}
-use Rattle.vdb_coord.specs.declared.Level.TheVariants.{Upper}
-use Rattle.vdb_coord.proofs.Boxes.{not_true}
-use Rattle.vdb_coord.proofs.Members.{coord_exact, coord_equiv}
-use Rattle.vdb_node.specs.declared.Entry.{Entry}
-use Rattle.vdb_tree.specs.Changes.{IsConstantBlock}
-use Rattle.vdb_tree.specs.Layout.{Layout, field_of, background_cell, root_at}
-use Rattle.vdb_tree.specs.ConstantBlocks.{is_background, roots}
-use Rattle.vdb_tree.specs.Sound.{IsSound}
-use Rattle.vdb_tree.specs.Table.{IsNextKey, IsPast}
-use Rattle.vdb_coord.proofs.BlockOrder.{key_equal, less_apart}
 use Rattle.vdb_tree.proofs.Blocks.{never, background_from, non_background_from}
 use Rattle.vdb_tree.proofs.KeysPast.{fewer_past, keys_past, past_on}
 use Rattle.vdb_tree.proofs.Rooted.{one_more, or_cases, or_first, or_second, rooted, roots_at_least, roots_at_most}

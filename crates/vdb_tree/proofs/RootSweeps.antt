@@ -1,27 +1,6 @@
 -- Pruning upper extent after upper extent, in the order of keys.
-use Rattle.std.proofs.Common.{◌≡◌, ◌≢◌, ◌≤◌, ◌⊎◌, inl, inr, ℕ, Bool, true, false, List, refl, sym, ap, ◌∙◌, arith, length}
-use Rattle.std.specs.Prelude.{Option, Some, None, IsSome, if◌then◌else◌}
-use Rattle.std.specs.List.{IsDistinct}
+use Rattle.vdb_tree.proofs.Common.{◌≡◌, ◌≢◌, ◌≤◌, ◌⊎◌, inl, inr, ℕ, Bool, true, false, List, refl, sym, ap, ◌∙◌, arith, length, Option, Some, None, IsSome, if◌then◌else◌, IsDistinct, keys_of, is_gt, Ordering, Less, Equal, Greater, key, coord_cmp, coord_eq, Bits, Coord, Leaf, Lower, Upper, coord_exact, Entry, Child, Tile, Cell, IsConstantBlock, IsNeededTo, IsNoBackgroundRoot, Keeps, PrunesRoot, SameDescent, Layout, lower_entry, background_cell, root_at, root_entry, upper_entry, cell_eq, IsSound, IsNextKey, IsPast, less_apart}
 use Rattle.std.specs.Option.{option_eq}
-use Rattle.std.specs.Map.{keys_of}
-use Rattle.std.specs.Ordering.{is_gt}
-use Rattle.std.specs.declared.cmp.Ordering.{Ordering}
-use Rattle.std.specs.declared.cmp.Ordering.TheVariants.{Less, Equal, Greater}
-use Rattle.vdb_coord.specs.Blocks.{key}
-use Rattle.vdb_coord.specs.Space.{coord_cmp, coord_eq}
-use Rattle.vdb_coord.specs.declared.Bits.{Bits}
-use Rattle.vdb_coord.specs.declared.Coord.{Coord}
-use Rattle.vdb_coord.specs.declared.Level.TheVariants.{Leaf, Lower, Upper}
-use Rattle.vdb_coord.proofs.Members.{coord_exact}
-use Rattle.vdb_node.specs.declared.Entry.{Entry}
-use Rattle.vdb_node.specs.declared.Entry.TheVariants.{Child, Tile}
-use Rattle.vdb_value.specs.declared.Cell.{Cell}
-use Rattle.vdb_tree.specs.Changes.{IsConstantBlock, IsNeededTo, IsNoBackgroundRoot, Keeps, PrunesRoot, SameDescent}
-use Rattle.vdb_tree.specs.Layout.{Layout, lower_entry, background_cell, root_at, root_entry, upper_entry}
-use Rattle.vdb_tree.specs.ConstantBlocks.{cell_eq}
-use Rattle.vdb_tree.specs.Sound.{IsSound}
-use Rattle.vdb_tree.specs.Table.{IsNextKey, IsPast}
-use Rattle.vdb_coord.proofs.BlockOrder.{less_apart}
 use Rattle.vdb_tree.proofs.KeysPast.{past_on}
 use Rattle.vdb_tree.proofs.Levels.{coord_cases, like_coords, owned_as, tile_or_child, unlike_coords}
 use Rattle.vdb_tree.proofs.Needed.{absent_entry, some_or_none, is_some_from}

@@ -1,32 +1,7 @@
 -- The upper extents that hold anything but the background, counted against the keys of the root table.
-use Rattle.std.proofs.Common.{◌≡◌, ◌≢◌, ◌⊎◌, inl, inr, ◌<◌, ◌≤◌, Bool, true, false, not, ◌||◌, List, [], ◌∷◌, length, refl, sym, ap, subst, ◌∙◌, arith, IsTrue}
-use Rattle.std.specs.Prelude.{Some, None, is_some, IsSome}
-use Rattle.std.specs.List.{AllByRecursion, IsDistinct}
-use Rattle.std.specs.Map.{keys_of}
-use Rattle.std.specs.Set.{is_member}
-use Rattle.std.proofs.lemmas.Map.Entries.{length-keys_of}
-use Rattle.std.proofs.lemmas.Map.Made.{is_some-lookup, length-le_from_is_member}
-use Rattle.vdb_coord.specs.Blocks.{block, block_number, block_numbers, key}
-use Rattle.vdb_coord.specs.Entries.{AreBits}
-use Rattle.vdb_coord.specs.Space.{coord_eq, everywhere, is_inside}
-use Rattle.vdb_coord.specs.declared.Bits.{Bits}
-use Rattle.vdb_coord.specs.declared.Coord.{Coord}
-use Rattle.vdb_coord.specs.declared.Level.{Level}
-use Rattle.vdb_coord.specs.declared.Level.TheVariants.{Upper}
-use Rattle.vdb_coord.proofs.Boxes.{not_true}
-use Rattle.vdb_coord.proofs.CountBounds.{count_at_least, count_at_most}
-use Rattle.vdb_coord.proofs.InRange.{corner_in_range, number_in_range, number_of_corner, numbered_in_range}
-use Rattle.vdb_coord.proofs.Members.{coord_equiv, coord_exact}
-use Rattle.vdb_node.specs.declared.Entry.{Entry}
-use Rattle.vdb_value.specs.declared.Cell.{Cell}
-use Rattle.vdb_tree.specs.Changes.{IsConstantBlock}
-use Rattle.vdb_tree.specs.Field.{Field, off, write, written}
-use Rattle.vdb_tree.specs.Layout.{Layout, cell_at, field_of, background_cell, root_at}
-use Rattle.vdb_tree.specs.ConstantBlocks.{is_background, is_uniform, roots}
-use Rattle.vdb_tree.specs.Sound.{IsSound}
-use Rattle.vdb_tree.specs.internal.Altered.{AreSameCells, IsAlteredIn}
-use Rattle.vdb_tree.specs.Table.{HasCapacity}
-use Rattle.vdb_tree.specs.declared.Write.{Write}
+use Rattle.vdb_tree.proofs.Common.{◌≡◌, ◌≢◌, ◌⊎◌, inl, inr, ◌<◌, ◌≤◌, Bool, true, false, not, ◌||◌, List, [], ◌∷◌, length, refl, sym, ap, subst, ◌∙◌, arith, IsTrue, Some, None, is_some, IsSome, AllByRecursion, keys_of, is_member, length-keys_of, length-le_from_is_member, block, block_number, block_numbers, key, AreBits, coord_eq, everywhere, is_inside, Bits, Coord, Level, Upper, not_true, count_at_least, count_at_most, corner_in_range, number_in_range, number_of_corner, numbered_in_range, coord_equiv, coord_exact, Entry, Cell, IsConstantBlock, Field, off, write, written, Layout, cell_at, field_of, background_cell, root_at, is_background, is_uniform, roots, IsSound, AreSameCells, IsAlteredIn, HasCapacity, Write}
+use Rattle.std.specs.List.{IsDistinct}
+use Rattle.std.proofs.lemmas.Map.Made.{is_some-lookup}
 use Rattle.vdb_tree.proofs.Blocks.{never, uniform_block, uniform_block_from}
 use Rattle.vdb_tree.proofs.Fields.{cell_inside}
 use Rattle.vdb_tree.proofs.Levels.{coord_cases, unlike_coords}

@@ -1,29 +1,6 @@
 -- States set by a rule, one part of a tree after another.
-use Rattle.std.proofs.Common.{◌≡◌, ◌≢◌, ◌⊎◌, inl, inr, ℕ, ◌+◌, ◌<◌, ◌≤◌, Bool, true, false, not, refl, sym, ap, subst, ◌∙◌, arith, IsTrue, List}
-use Rattle.std.proofs.Math.Bool.{beq}
-use Rattle.std.specs.Prelude.{Option, Some, None, slice_index_or, if◌then◌else◌}
-use Rattle.vdb_coord.specs.Blocks.{block_number, entries, key, node_bits, offset}
-use Rattle.vdb_coord.specs.Entries.{entry_number}
-use Rattle.vdb_coord.specs.Space.{coord_cmp, coord_eq}
-use Rattle.vdb_coord.specs.declared.Bits.{Bits}
-use Rattle.vdb_coord.specs.declared.Coord.{Coord}
-use Rattle.vdb_coord.specs.declared.Level.{Level}
-use Rattle.vdb_coord.specs.declared.Level.TheVariants.{Leaf, Lower, Upper}
-use Rattle.vdb_coord.proofs.Nesting.{block_from_entry, entry_from_offset, offset_from_entry}
-use Rattle.vdb_coord.proofs.Positions.{entries_is, offset_below}
-use Rattle.vdb_node.specs.Entries.{IsFirstWithout, IsInactiveTile}
-use Rattle.vdb_node.specs.Nodes.{entry_count}
-use Rattle.vdb_node.specs.declared.Entry.{Entry}
-use Rattle.vdb_node.specs.declared.Entry.TheVariants.{Child, Tile}
-use Rattle.vdb_value.specs.declared.Cell.{Cell}
-use Rattle.vdb_tree.specs.Changes.{Fills, KeepsHead, Turns}
-use Rattle.vdb_tree.specs.Field.{ruled}
-use Rattle.vdb_tree.specs.Layout.{Layout, background_cell, cell_at, entry_over, field_of, lower_entry, root_at, root_entry, upper_entry}
-use Rattle.vdb_tree.specs.Table.{IsNextKey, IsPast}
-use Rattle.vdb_tree.specs.internal.Pairing.{IsRefinedFor, SetsBlock, acts_at, made, state_of}
-use Rattle.vdb_tree.specs.internal.Ruled.{IsAmong, IsIdleTile, IsNextWithout, IsNextWithoutAt, IsSettled, SetsRoot, SetsWithin, made_tile}
-use Rattle.vdb_tree.specs.declared.pairs.StateRule.{StateRule}
-use Rattle.vdb_tree.specs.declared.pairs.StateRule.TheVariants.{Unite, Subtract, Intersect}
+use Rattle.vdb_tree.proofs.Common.{◌≡◌, ◌≢◌, ◌⊎◌, inl, inr, ℕ, ◌+◌, ◌<◌, ◌≤◌, Bool, true, false, not, refl, sym, ap, subst, ◌∙◌, arith, IsTrue, List, beq, Option, Some, None, slice_index_or, if◌then◌else◌, block_number, entries, key, node_bits, offset, entry_number, coord_cmp, coord_eq, Bits, Coord, Level, Leaf, Lower, Upper, block_from_entry, entry_from_offset, offset_from_entry, entries_is, offset_below, IsFirstWithout, IsInactiveTile, entry_count, Entry, Child, Tile, Cell, Fills, KeepsHead, Turns, ruled, Layout, background_cell, cell_at, entry_over, field_of, lower_entry, root_at, root_entry, upper_entry, IsNextKey, IsPast, IsRefinedFor, SetsBlock, acts_at, made, state_of, IsAmong, SetsRoot, SetsWithin, StateRule, Unite, Subtract, Intersect}
+use Rattle.vdb_tree.specs.internal.Ruled.{IsIdleTile, IsNextWithout, IsNextWithoutAt, IsSettled, made_tile}
 use Rattle.vdb_tree.proofs.Descents.{root_by_block, tile_lower, tile_upper, upper_by_block}
 use Rattle.vdb_tree.proofs.Equations.{same_field}
 use Rattle.vdb_tree.proofs.KeysPast.{past_on}

@@ -1,17 +1,7 @@
 -- A rule that makes states inactive adds no upper extent that holds anything but the background.
-use Rattle.std.proofs.Common.{◌≡◌, ◌≢◌, ◌∙◌, refl, true, false, Bool, not, ◌&&◌, cond, ◌≤◌, ℕ, arith, sym}
-use Rattle.vdb_coord.specs.Blocks.{block, block_numbers}
-use Rattle.vdb_coord.specs.Space.{everywhere, is_inside}
-use Rattle.vdb_coord.specs.declared.Bits.{Bits}
-use Rattle.vdb_coord.specs.declared.Coord.{Coord}
-use Rattle.vdb_coord.specs.declared.Level.TheVariants.{Upper}
-use Rattle.vdb_coord.proofs.Boxes.{and_true}
-use Rattle.vdb_coord.proofs.CountBounds.{count_at_most, member_passing}
-use Rattle.vdb_value.specs.declared.Cell.{Cell}
-use Rattle.vdb_tree.specs.ConstantBlocks.{is_background, root_keys, roots}
-use Rattle.vdb_tree.specs.Field.{Field, off, ruled, with_states}
-use Rattle.vdb_tree.specs.declared.pairs.StateRule.{StateRule}
-use Rattle.vdb_tree.specs.declared.pairs.StateRule.TheVariants.{Unite, Subtract, Intersect}
+use Rattle.vdb_tree.proofs.Common.{◌≡◌, ◌≢◌, ◌∙◌, refl, true, false, Bool, not, ◌&&◌, cond, ◌≤◌, ℕ, arith, sym, block, block_numbers, everywhere, is_inside, Bits, Coord, Upper, and_true, count_at_most, member_passing, Cell, is_background, roots, Field, off, ruled, StateRule, Unite, Subtract, Intersect}
+use Rattle.vdb_tree.specs.ConstantBlocks.{root_keys}
+use Rattle.vdb_tree.specs.Field.{with_states}
 use Rattle.vdb_tree.proofs.Blocks.{never}
 use Rattle.vdb_tree.proofs.Rooted.{not_from, was_false}
 use Rattle.vdb_tree.proofs.Uniform.{uniform_cells, uniform_from}

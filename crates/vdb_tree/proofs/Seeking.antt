@@ -1,12 +1,5 @@
 -- The first leaf of two parts is the first of the earlier one, or else that of the later one.
-use Rattle.std.proofs.Common.{◌≡◌, ◌⊎◌, inl, inr, ℕ, ◌<◌, ◌≤◌, false, arith}
-use Rattle.std.specs.Prelude.{Option, Some, None}
-use Rattle.std.specs.Ordering.{is_lt}
-use Rattle.vdb_coord.specs.Blocks.{block_cmp}
-use Rattle.vdb_coord.specs.declared.Bits.{Bits}
-use Rattle.vdb_coord.specs.declared.Coord.{Coord}
-use Rattle.vdb_tree.specs.Layout.{Layout}
-use Rattle.vdb_tree.specs.internal.Seeks.{IsFirstLeaf, IsLeafCorner}
+use Rattle.vdb_tree.proofs.Common.{◌≡◌, ◌⊎◌, inl, inr, ℕ, ◌<◌, ◌≤◌, false, arith, Option, Some, None, is_lt, block_cmp, Bits, Coord, Layout, IsFirstLeaf, IsLeafCorner}
 
 -- of two numbers one is at most the other, or the other is less
 pub from_or_below : (m n : ℕ) → (m ≤ n) ⊎ (n < m)

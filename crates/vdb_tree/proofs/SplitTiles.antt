@@ -1,22 +1,6 @@
 -- Tiles that are split for a box, and stay split when nodes are added.
-use Rattle.std.proofs.Common.{◌≡◌, ◌≢◌, ◌⊎◌, inl, inr, ℕ, true, refl, sym, ap, ◌∙◌, IsTrue, Some, None, Option, Ok, Err}
-use Rattle.std.specs.Prelude.{IsSome, OnOk, Result}
-use Rattle.vdb_coord.specs.Blocks.{block_number, key}
-use Rattle.vdb_coord.specs.Space.{Box, coord_cmp, is_box, is_inside}
-use Rattle.vdb_coord.specs.Walk.{IsBlockBefore, IsNextBlock}
-use Rattle.vdb_coord.specs.declared.Bits.{Bits}
-use Rattle.vdb_coord.specs.declared.Coord.{Coord}
-use Rattle.vdb_coord.specs.declared.Level.{Level}
-use Rattle.vdb_coord.specs.declared.Level.TheVariants.{Leaf, Lower, Upper}
-use Rattle.vdb_coord.proofs.Walk.{min_inside, none_before}
-use Rattle.vdb_node.specs.declared.Entry.TheVariants.{Child, Tile}
-use Rattle.vdb_value.specs.declared.Cell.{Cell}
-use Rattle.vdb_tree.specs.Changes.{AddsNodes, Keeps}
-use Rattle.vdb_tree.specs.Layout.{Layout, entry_over, background_cell, root_at}
-use Rattle.vdb_tree.specs.Nodes.{IsCut, MakesNoKey, MakesOnly}
-use Rattle.vdb_tree.specs.SplitBox.{IsCovered, IsSplit, IsSplitAt, IsSplitTo}
-use Rattle.vdb_tree.specs.Capacity.{IsNextMet}
-use Rattle.vdb_tree.specs.Table.{IsPast}
+use Rattle.vdb_tree.proofs.Common.{◌≡◌, ◌≢◌, ◌⊎◌, inl, inr, ℕ, true, refl, sym, ap, ◌∙◌, IsTrue, Some, None, Option, Ok, Err, IsSome, OnOk, Result, block_number, key, Box, coord_cmp, is_box, is_inside, IsBlockBefore, IsNextBlock, Bits, Coord, Level, Leaf, Lower, Upper, min_inside, none_before, Child, Tile, Cell, AddsNodes, Keeps, Layout, entry_over, background_cell, root_at, IsCut, MakesNoKey, MakesOnly, IsCovered, IsSplit, IsSplitTo, IsNextMet, IsPast}
+use Rattle.vdb_tree.specs.SplitBox.{IsSplitAt}
 use Rattle.vdb_tree.proofs.Covered.{leaf_covered, lower_covered}
 use Rattle.vdb_tree.proofs.Descents.{tile_lower, tile_upper}
 use Rattle.vdb_tree.proofs.KeysPast.{past_on}

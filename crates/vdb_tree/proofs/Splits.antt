@@ -1,29 +1,9 @@
 -- Splitting a tile into a node with its cell all over: no cell changes.
-use Rattle.std.proofs.Common.{ap, arith, ◌≡◌, ◌≢◌, ◌≤◌, ◌<◌, ℕ, List, refl, sym, ◌∙◌, length, inl, inr, IsTrue}
-use Rattle.std.specs.Prelude.{Some, None, IsSome, slice_index_or, if◌then◌else◌}
-use Rattle.std.specs.List.{IsDistinct}
-use Rattle.std.specs.Map.{keys_of}
-use Rattle.vdb_coord.specs.Blocks.{block_number, block_numbers, key, node_bits, offset}
-use Rattle.vdb_coord.specs.Space.{coord_eq, is_inside}
-use Rattle.vdb_coord.specs.declared.Bits.{Bits}
-use Rattle.vdb_coord.specs.declared.Coord.{Coord}
-use Rattle.vdb_coord.specs.declared.Level.{Level}
-use Rattle.vdb_coord.specs.declared.Level.TheVariants.{Leaf, Lower, Upper}
-use Rattle.vdb_coord.proofs.Members.{coord_exact}
-use Rattle.vdb_coord.proofs.Positions.{entries_is, offset_below}
-use Rattle.vdb_node.specs.Entries.{IsConstant, SetsEntry}
-use Rattle.vdb_node.specs.Leaf.{IsConstantLeaf, cell_in, Leaf as LeafOf}
-use Rattle.vdb_node.specs.Nodes.{entry_count}
-use Rattle.vdb_node.specs.declared.Entry.{Entry}
-use Rattle.vdb_node.specs.declared.Entry.TheVariants.{Child, Tile}
-use Rattle.vdb_pool.specs.Contents.{Contents, node_at}
-use Rattle.vdb_value.specs.declared.Cell.{Cell}
-use Rattle.vdb_tree.specs.Changes.{AddsNodes, Keeps, SameDescent, Turns}
-use Rattle.vdb_tree.specs.Layout.{Layout, cell_at, entry_over, field_of, lower_entry, background_cell, root_at, root_entry, upper_entry}
+use Rattle.vdb_tree.proofs.Common.{ap, arith, ◌≡◌, ◌≢◌, ◌≤◌, ◌<◌, ℕ, List, refl, sym, ◌∙◌, length, inl, inr, IsTrue, Some, None, IsSome, slice_index_or, if◌then◌else◌, IsDistinct, keys_of, block_number, block_numbers, key, node_bits, offset, coord_eq, is_inside, Bits, Coord, Level, Leaf, Lower, Upper, coord_exact, entries_is, offset_below, IsConstant, SetsEntry, IsConstantLeaf, cell_in, entry_count, Entry, Child, Tile, Contents, node_at, Cell, AddsNodes, Keeps, SameDescent, Turns, Layout, entry_over, field_of, lower_entry, background_cell, root_at, root_entry, upper_entry, KeepsAllBut, in_leaf, is_child, IsSound}
+use Rattle.vdb_node.specs.Leaf.{Leaf as LeafOf}
+use Rattle.vdb_tree.specs.Layout.{cell_at}
 use Rattle.vdb_tree.specs.Leaves.{with_leaf as with_leaf_cells}
-use Rattle.vdb_tree.specs.Nodes.{IsSameTree, KeepsAllBut}
-use Rattle.vdb_tree.specs.Paths.{in_leaf, is_child}
-use Rattle.vdb_tree.specs.Sound.{IsSound}
+use Rattle.vdb_tree.specs.Nodes.{IsSameTree}
 use Rattle.vdb_tree.proofs.Blocks.{never}
 use Rattle.vdb_tree.proofs.Descents.{leaf_cell, lower_by_block, root_by_block, upper_by_block}
 use Rattle.vdb_tree.proofs.Equations.{same_field}

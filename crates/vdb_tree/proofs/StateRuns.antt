@@ -1,29 +1,7 @@
 -- What a pass has done that sets the states of a node's entries by a rule.
-use Rattle.std.proofs.Common.{◌≡◌, ◌≢◌, ◌⊎◌, inl, inr, ℕ, ◌+◌, ◌<◌, ◌≤◌, Bool, true, false, List, refl, sym, ap, ◌∙◌, arith, IsTrue, subst}
-use Rattle.std.specs.Prelude.{IfNone, IfSome, Option, Some, None}
-use Rattle.vdb_coord.specs.Blocks.{block_around, block_number, entries, offset, sub_block}
-use Rattle.vdb_coord.specs.Entries.{AreBits}
-use Rattle.vdb_coord.specs.Space.{everywhere, is_inside}
-use Rattle.vdb_coord.specs.declared.Bits.{Bits}
-use Rattle.vdb_coord.specs.declared.Coord.{Coord}
-use Rattle.vdb_coord.specs.declared.Level.{Level}
-use Rattle.vdb_coord.specs.declared.Level.TheVariants.{Leaf, Lower, Upper}
-use Rattle.vdb_coord.proofs.InRange.{block_in_range}
-use Rattle.vdb_coord.proofs.Nesting.{corner_of_entry, entry_from_offset, lower_from_leaf, offset_from_entry}
-use Rattle.vdb_coord.proofs.Positions.{entries_is, offset_below}
-use Rattle.vdb_mask.specs.Mask.{is_on}
+use Rattle.vdb_tree.proofs.Common.{◌≡◌, ◌≢◌, ◌⊎◌, inl, inr, ℕ, ◌+◌, ◌<◌, ◌≤◌, Bool, true, false, List, refl, sym, ap, ◌∙◌, arith, IsTrue, subst, IfNone, IfSome, Option, Some, None, block_around, block_number, entries, offset, sub_block, AreBits, everywhere, is_inside, Bits, Coord, Level, Leaf, Lower, Upper, block_in_range, corner_of_entry, entry_from_offset, lower_from_leaf, offset_from_entry, entries_is, offset_below, is_on, entry_count, Child, Tile, node_at, Cell, Fills, KeepsUppers, Turns, Layout, cell_at, entry_over, field_of, lower_entry, root_at, upper_entry, StateRule, Unite, Subtract, Intersect, IsInactiveFrom, IsNextActive, acts_at, IsRefinedFor, made, SetsBlock, state_of, SetsRun}
 use Rattle.vdb_node.specs.Leaf.{Leaf as LeafOf}
-use Rattle.vdb_node.specs.Nodes.{entry_count}
-use Rattle.vdb_node.specs.declared.Entry.TheVariants.{Child, Tile}
-use Rattle.vdb_pool.specs.Contents.{node_at}
-use Rattle.vdb_value.specs.declared.Cell.{Cell}
-use Rattle.vdb_tree.specs.Changes.{Fills, KeepsUppers, Turns}
-use Rattle.vdb_tree.specs.Layout.{Layout, cell_at, entry_over, field_of, lower_entry, root_at, upper_entry}
-use Rattle.vdb_tree.specs.declared.pairs.StateRule.{StateRule}
-use Rattle.vdb_tree.specs.declared.pairs.StateRule.TheVariants.{Unite, Subtract, Intersect}
-use Rattle.vdb_tree.specs.internal.Active.{IsInactiveFrom, IsNextActive}
-use Rattle.vdb_tree.specs.internal.Pairing.{acts_at, IsRefinedFor, made, SetsBlock, state_of}
-use Rattle.vdb_tree.specs.internal.StateRuns.{acts, AreSettled, AreStatesOf, FillsLeafStates, IsAmong, IsNextToSet, IsNextToSetAt, SetsLeaf, SetsRun}
+use Rattle.vdb_tree.specs.internal.StateRuns.{acts, AreSettled, AreStatesOf, FillsLeafStates, IsAmong, IsNextToSet, IsNextToSetAt, SetsLeaf}
 use Rattle.vdb_tree.proofs.Constants.{entries_few}
 use Rattle.vdb_tree.proofs.Descents.{leaf_cell, lower_by_block, tile_cell, tile_lower, upper_by_block}
 use Rattle.vdb_tree.proofs.Fields.{cell_inside}

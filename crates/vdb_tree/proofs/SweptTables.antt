@@ -1,14 +1,5 @@
 -- A swept table stays swept if no key and no background cell is added.
-use Rattle.std.proofs.Common.{◌≡◌, ◌∙◌, refl, sym, ap, false, List, inl, inr}
-use Rattle.std.specs.Prelude.{None, Option, Some, IsSome, IsTrue, if◌then◌else◌}
-use Rattle.vdb_coord.specs.Blocks.{key}
-use Rattle.vdb_coord.specs.Space.{coord_eq}
-use Rattle.vdb_coord.specs.declared.Bits.{Bits}
-use Rattle.vdb_coord.specs.declared.Coord.{Coord}
-use Rattle.vdb_node.specs.declared.Entry.{Entry}
-use Rattle.vdb_value.specs.declared.Cell.{Cell}
-use Rattle.vdb_tree.specs.Changes.{Changes, IsSwept, Keeps}
-use Rattle.vdb_tree.specs.Layout.{Layout, background_cell, cell_at, root_at}
+use Rattle.vdb_tree.proofs.Common.{◌≡◌, ◌∙◌, refl, sym, ap, false, List, inl, inr, None, Option, Some, IsSome, IsTrue, if◌then◌else◌, key, coord_eq, Bits, Coord, Entry, Cell, Changes, IsSwept, Keeps, Layout, background_cell, cell_at, root_at}
 use Rattle.vdb_tree.proofs.Blocks.{never}
 use Rattle.vdb_tree.proofs.Levels.{coord_cases}
 use Rattle.vdb_tree.proofs.RootSweeps.{other_key, that_key}

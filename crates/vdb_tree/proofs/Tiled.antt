@@ -1,25 +1,7 @@
 -- What the descents meet after a node is collapsed into a tile.
-use Rattle.std.proofs.Common.{◌≡◌, ◌≢◌, inl, inr, ℕ, ◌≤◌, cond, List, length, refl, sym, ap, ◌∙◌, arith}
-use Rattle.std.specs.Prelude.{Option, Some, None, IsSome, slice_index_or}
-use Rattle.std.specs.List.{IsDistinct}
-use Rattle.std.specs.Map.{keys_of}
-use Rattle.std.specs.Option.{option_map_or}
-use Rattle.std.proofs.lemmas.Bool.Decides.{eqb_tells}
-use Rattle.vdb_coord.specs.Blocks.{block_number, key, offset}
-use Rattle.vdb_coord.specs.Space.{coord_eq}
-use Rattle.vdb_coord.specs.declared.Bits.{Bits}
-use Rattle.vdb_coord.specs.declared.Coord.{Coord}
-use Rattle.vdb_coord.specs.declared.Level.{Level}
-use Rattle.vdb_coord.specs.declared.Level.TheVariants.{Leaf, Lower, Upper}
-use Rattle.vdb_node.specs.Entries.{SetsEntry}
-use Rattle.vdb_node.specs.Leaf.{cell_in, Leaf as LeafOf}
-use Rattle.vdb_node.specs.declared.Entry.{Entry}
-use Rattle.vdb_node.specs.declared.Entry.TheVariants.{Child, Tile}
-use Rattle.vdb_pool.specs.Contents.{Contents, node_at}
-use Rattle.vdb_value.specs.declared.Cell.{Cell}
-use Rattle.vdb_tree.specs.Changes.{Fills, Turns}
-use Rattle.vdb_tree.specs.Layout.{Layout, cell_at, lower_entry, background_cell, root_at, root_entry, upper_entry, within}
-use Rattle.vdb_tree.specs.Sound.{IsOwned, IsSound}
+use Rattle.vdb_tree.proofs.Common.{◌≡◌, ◌≢◌, inl, inr, ℕ, ◌≤◌, cond, List, length, refl, sym, ap, ◌∙◌, arith, Option, Some, None, IsSome, slice_index_or, IsDistinct, keys_of, option_map_or, eqb_tells, block_number, key, offset, coord_eq, Bits, Coord, Level, Leaf, Lower, Upper, SetsEntry, cell_in, Entry, Child, Tile, Contents, node_at, Cell, Fills, Turns, Layout, lower_entry, background_cell, root_at, root_entry, upper_entry, within, IsOwned, IsSound}
+use Rattle.vdb_node.specs.Leaf.{Leaf as LeafOf}
+use Rattle.vdb_tree.specs.Layout.{cell_at}
 use Rattle.vdb_tree.proofs.Descents.{lower_by_block, root_by_block, upper_by_block, tile_lower, tile_upper}
 use Rattle.vdb_tree.proofs.Levels.{IsByBlock, Puts, child_slot, coord_cases, like_coords, node_turns, owned_after, some_held, tile_no_child, tile_or_child, unlike_coords, within_same}
 

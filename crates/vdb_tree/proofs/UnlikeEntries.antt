@@ -1,24 +1,6 @@
 -- The entries of a node that aren't tiles of a cell, and blocks of one cell.
-use Rattle.std.proofs.Common.{◌≡◌, ◌⊎◌, inl, inr, ℕ, ◌+◌, ◌-◌, ◌<◌, ◌≤◌, Bool, true, false, List, arith, refl, sym, ap, subst, ◌∙◌, ◌^◌, IsTrue}
-use Rattle.std.specs.Prelude.{◌↔◌, Option, Some, None, slice_index_or}
-use Rattle.vdb_coord.specs.Blocks.{block_around, block_number, entries, node_bits, offset}
-use Rattle.vdb_coord.specs.Entries.{AreBits}
-use Rattle.vdb_coord.specs.Space.{everywhere, is_inside}
-use Rattle.vdb_coord.specs.declared.Bits.{Bits}
-use Rattle.vdb_coord.specs.declared.Coord.{Coord}
-use Rattle.vdb_coord.specs.declared.Level.{Level}
-use Rattle.vdb_coord.proofs.InRange.{block_in_range}
-use Rattle.vdb_coord.proofs.Loops.{corner}
-use Rattle.vdb_coord.proofs.Nesting.{corner_of_entry}
-use Rattle.vdb_coord.proofs.Positions.{entries_is, offset_below}
-use Rattle.vdb_node.specs.Entries.{IsFirstWithout, IsFirstWithoutAt, IsTileOf}
-use Rattle.vdb_node.specs.Nodes.{entry_count}
-use Rattle.vdb_node.specs.declared.Entry.{Entry}
-use Rattle.vdb_node.specs.declared.Entry.TheVariants.{Tile}
-use Rattle.vdb_value.specs.declared.Cell.{Cell}
-use Rattle.vdb_tree.specs.Changes.{IsConstantAt, IsConstantBlock}
-use Rattle.vdb_tree.specs.Layout.{Layout, cell_at, field_of}
-use Rattle.vdb_tree.specs.ConstantBlocks.{is_constant}
+use Rattle.vdb_tree.proofs.Common.{◌≡◌, ◌⊎◌, inl, inr, ℕ, ◌+◌, ◌-◌, ◌<◌, ◌≤◌, Bool, true, false, List, arith, refl, sym, ap, subst, ◌∙◌, ◌^◌, IsTrue, ◌↔◌, Option, Some, None, slice_index_or, block_around, block_number, entries, node_bits, offset, AreBits, everywhere, is_inside, Bits, Coord, Level, block_in_range, corner, corner_of_entry, entries_is, offset_below, IsFirstWithout, IsTileOf, entry_count, Entry, Tile, Cell, IsConstantAt, IsConstantBlock, Layout, cell_at, field_of, is_constant}
+use Rattle.vdb_node.specs.Entries.{IsFirstWithoutAt}
 use Rattle.vdb_tree.specs.Unlike.{IsCellFrom, IsNextUnlike, IsNextUnlikeAt, IsOneCell}
 use Rattle.vdb_tree.proofs.BlockTests.{IsConstantBelow}
 use Rattle.vdb_tree.proofs.Blocks.{constant_from, non_constant_from, never}
@@ -94,26 +76,6 @@ nearer from index n h k = omega (arith, h, k)
 
 pub least : (n : ℕ) → 0 ≤ n
 least n = omega arith
-
-itself : (n : ℕ) → n ≤ n
-itself n = omega arith
-
-not_both : (a b : ℕ) → b ≤ a → a < b → ⊥
-not_both a b h k = omega (arith, h, k)
-
-past_last : (a n from : ℕ) → a < n → n ≤ from → a < from
-past_last a n from h k = omega (arith, h, k)
-
--- ---- the entries of any block
-
-module _ {V : Type 0} (bits : Bits) (cells : Coord → Cell V) (level : Level) (p : Coord) (cell : Cell V) where
-  -- no entry lies between an entry and itself
-  pub unlike_here : (from : ℕ) → from < entries bits level → IsNextUnlike bits cells level p cell from (Some from)
-  unlike_here from h = record { within = h; from_on = itself from; before = λ q b more less. absurd (not_both (offset bits level q) from more less) }
-
-  -- past the last entry no entry is left
-  pub unlike_past : (from : ℕ) → entries bits level ≤ from → IsNextUnlike bits cells level p cell from None
-  unlike_past from h q b more less = absurd (not_both (offset bits level q) from more (past_last (offset bits level q) (entries bits level) from less h))
 
 -- ---- the one cell of a block
 

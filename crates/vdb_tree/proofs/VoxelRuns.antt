@@ -1,20 +1,7 @@
 -- Runs of a leaf's voxels, whose offsets follow one another.
-use Rattle.std.proofs.Common.{◌≡◌, ◌⊎◌, inl, inr, ℕ, ℤ, pos, ◌+◌, ◌<◌, ◌≤◌, ◌≤ℤ◌, ◌<ℤ◌, true, arith, ap, sym, subst, ◌∙◌, SFits, w32}
-use Rattle.std.specs.Int.{int_min}
-use Rattle.std.proofs.lemmas.Int.{clamps, ints}
-use Rattle.vdb_coord.specs.Blocks.{block_around, block_number, offset, sub_block}
-use Rattle.vdb_coord.specs.Entries.{entry_number}
-use Rattle.vdb_coord.specs.Space.{Box, coord, is_inside}
-use Rattle.vdb_coord.specs.Walk.{IsBefore, coordinates_after}
-use Rattle.vdb_coord.specs.declared.Bits.{Bits}
-use Rattle.vdb_coord.specs.declared.Coord.{Coord}
-use Rattle.vdb_coord.specs.declared.Level.TheVariants.{Leaf}
-use Rattle.vdb_coord.proofs.BlockOrder.{which_before}
-use Rattle.vdb_coord.proofs.Nesting.{corner_of_entry, entry_number_leaf, inside_around, inside_numbered, number_in_block}
+use Rattle.vdb_tree.proofs.Common.{◌≡◌, ◌⊎◌, inl, inr, ℕ, ℤ, pos, ◌+◌, ◌<◌, ◌≤◌, ◌≤ℤ◌, ◌<ℤ◌, true, arith, ap, sym, subst, ◌∙◌, SFits, w32, int_min, ints, block_around, block_number, offset, sub_block, entry_number, Box, coord, is_inside, IsBefore, coordinates_after, Bits, Coord, Leaf, which_before, corner_of_entry, entry_number_leaf, inside_around, inside_numbered, number_in_block, offset_below, few_after, inside_from, inside_parts, nearer_x, nearer_y, nearer_z, IsRun}
+use Rattle.std.proofs.lemmas.Int.{clamps}
 use Rattle.vdb_coord.proofs.Offsets.{offset_less}
-use Rattle.vdb_coord.proofs.Positions.{offset_below}
-use Rattle.vdb_coord.proofs.Walk.{few_after, inside_from, inside_parts, nearer_x, nearer_y, nearer_z}
-use Rattle.vdb_tree.specs.internal.Paints.{IsRun}
 
 -- ---- along one axis
 

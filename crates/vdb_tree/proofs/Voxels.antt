@@ -1,23 +1,6 @@
 -- Active tiles, and leaves in place of them.
-use Rattle.std.proofs.Common.{◌≡◌, ◌⊎◌, inl, inr, refl, sym, ap, subst, ◌∙◌, true, false, IsTrue, Some, None, Option, ℕ, ◌<◌, arith}
-use Rattle.std.specs.Prelude.{Bool, not, IfSome}
-use Rattle.vdb_coord.specs.Blocks.{block_number, key}
-use Rattle.vdb_coord.specs.Order.{ComesBefore, IsNextCoord, IsUpToBlock, coordinates_past}
-use Rattle.vdb_coord.specs.Space.{Box, is_inside}
-use Rattle.vdb_coord.specs.declared.Bits.{Bits}
-use Rattle.vdb_coord.specs.declared.Coord.{Coord}
-use Rattle.vdb_coord.specs.declared.Level.{Level}
-use Rattle.vdb_coord.specs.declared.Level.TheVariants.{Leaf, Lower, Upper}
-use Rattle.vdb_coord.proofs.BlockOrder.{not_before_min}
-use Rattle.vdb_node.specs.declared.Entry.TheVariants.{Tile}
-use Rattle.vdb_value.specs.declared.Cell.{Cell}
-use Rattle.vdb_tree.specs.Changes.{AddsNodes, Keeps}
-use Rattle.vdb_tree.specs.Field.{Field}
-use Rattle.vdb_tree.specs.Layout.{Layout, cell_at, entry_over, field_of, lower_entry, background_cell, root_at}
-use Rattle.vdb_tree.specs.Parts.{IsEnd, end_level, left_count}
-use Rattle.vdb_tree.specs.Paths.{in_leaf}
-use Rattle.vdb_tree.specs.Table.{HasCapacity}
-use Rattle.vdb_tree.specs.internal.Voxelised.{IsVoxelisedAround, IsVoxelisedFrom, IsVoxelisedTo}
+use Rattle.vdb_tree.proofs.Common.{◌≡◌, ◌⊎◌, inl, inr, refl, sym, ap, subst, ◌∙◌, true, false, IsTrue, Some, None, Option, ℕ, ◌<◌, arith, Bool, not, IfSome, block_number, key, ComesBefore, IsNextCoord, IsUpToBlock, coordinates_past, Box, is_inside, Bits, Coord, Level, Leaf, Lower, Upper, not_before_min, Tile, Cell, AddsNodes, Keeps, Field, Layout, cell_at, entry_over, field_of, lower_entry, background_cell, root_at, IsEnd, end_level, left_count, in_leaf, HasCapacity, IsVoxelisedTo}
+use Rattle.vdb_tree.specs.internal.Voxelised.{IsVoxelisedAround, IsVoxelisedFrom}
 use Rattle.vdb_tree.specs.declared.queries.ends.End.TheVariants.{Leaf as EndLeaf, Tile as EndTile}
 use Rattle.vdb_tree.proofs.Blocks.{never}
 use Rattle.vdb_tree.proofs.Descents.{lower_by_block, tile_lower, tile_upper}

@@ -1,24 +1,5 @@
 -- The outcomes of a write of a voxel, one for each path through the code.
-use Rattle.std.proofs.Common.{◌≡◌, ◌⊎◌, inl, inr, ◌<◌, ◌≤◌, ℕ, Bool, true, IsTrue, refl, sym, ap, subst, ◌∙◌, arith, length, Err}
-use Rattle.std.specs.Prelude.{None, Result}
-use Rattle.vdb_coord.specs.Blocks.{key}
-use Rattle.vdb_coord.specs.Entries.{AreBits}
-use Rattle.vdb_coord.specs.Space.{everywhere, is_inside}
-use Rattle.vdb_coord.specs.declared.Bits.{Bits}
-use Rattle.vdb_coord.specs.declared.Coord.{Coord}
-use Rattle.vdb_tree.specs.declared.Write.{Write}
-use Rattle.vdb_tree.specs.declared.refusal.TreeRefusal.{TreeRefusal}
-use Rattle.vdb_tree.specs.declared.refusal.TreeRefusal.TheVariants.{Memory, RootLimit}
-use Rattle.vdb_tree.specs.Changes.{Changes, IsSwept, Keeps}
-use Rattle.vdb_tree.specs.Field.{Field, write, written}
-use Rattle.vdb_node.specs.declared.Entry.TheVariants.{Child, Tile}
-use Rattle.vdb_value.specs.declared.Cell.{Cell}
-use Rattle.vdb_tree.specs.Layout.{Layout, cell_at, field_of, lower_entry, background_cell, root_at, root_entry, upper_entry}
-use Rattle.vdb_tree.specs.Outcome.{IsOutcome}
-use Rattle.vdb_tree.specs.ConstantBlocks.{roots}
-use Rattle.vdb_tree.specs.Sound.{IsSound}
-use Rattle.vdb_tree.specs.internal.Altered.{AreSameCells, IsAlteredIn}
-use Rattle.vdb_tree.specs.Table.{HasCapacity}
+use Rattle.vdb_tree.proofs.Common.{◌≡◌, ◌⊎◌, inl, inr, ◌<◌, ◌≤◌, ℕ, Bool, true, IsTrue, refl, sym, ap, subst, ◌∙◌, arith, length, Err, None, Result, key, AreBits, everywhere, is_inside, Bits, Coord, Write, TreeRefusal, Memory, RootLimit, Changes, IsSwept, Keeps, Field, write, written, Child, Tile, Cell, Layout, cell_at, field_of, lower_entry, background_cell, root_at, root_entry, upper_entry, IsOutcome, roots, IsSound, AreSameCells, IsAlteredIn, HasCapacity}
 use Rattle.vdb_tree.proofs.Descents.{tile_cell, tile_lower, tile_upper}
 use Rattle.vdb_tree.proofs.Equations.{changes_field, keeps_field, same_field}
 use Rattle.vdb_tree.proofs.Fields.{cell_inside}

@@ -1,27 +1,6 @@
 -- What becomes of a field when a leaf extent gets the cells of a leaf.
-use Rattle.std.proofs.Common.{◌≡◌, ◌≢◌, ◌<◌, ℕ, true, false, IsTrue, refl, sym, ap, subst, ◌∙◌, inl, inr, length}
-use Rattle.std.proofs.lemmas.List.{get_or_default}
-use Rattle.vdb_coord.specs.Blocks.{block_around, block_number, key, offset, sub_block}
-use Rattle.vdb_coord.specs.Entries.{AreBits}
-use Rattle.vdb_coord.specs.Space.{everywhere, is_inside}
-use Rattle.vdb_coord.specs.declared.Bits.{Bits}
-use Rattle.vdb_coord.specs.declared.Coord.{Coord}
-use Rattle.vdb_coord.specs.declared.Level.{Level}
-use Rattle.vdb_coord.specs.declared.Level.TheVariants.{Leaf, Lower, Upper}
-use Rattle.vdb_coord.proofs.Boxes.{not_true}
-use Rattle.vdb_coord.proofs.InRange.{block_in_range}
-use Rattle.vdb_coord.proofs.Nesting.{corner_of_entry, inside_numbered, lower_from_leaf, number_in_block, upper_from_lower}
-use Rattle.vdb_coord.proofs.Positions.{entries_is, offset_below}
-use Rattle.vdb_mask.specs.Mask.{is_on}
-use Rattle.vdb_node.specs.Leaf.{cell_in, IsConstantLeaf, Leaf as LeafOf}
-use Rattle.vdb_node.specs.Nodes.{entry_count}
-use Rattle.vdb_node.specs.declared.Entry.TheVariants.{Child, Tile}
-use Rattle.vdb_value.specs.declared.Cell.{Cell}
-use Rattle.vdb_tree.specs.Field.{Field, fill, off}
-use Rattle.vdb_tree.specs.internal.Altered.{AreSameCells, IsAlteredIn}
-use Rattle.vdb_tree.specs.Layout.{Layout, background_cell, cell_at, entry_over, field_of, lower_entry, root_at}
-use Rattle.vdb_tree.specs.Leaves.{with_leaf}
-use Rattle.vdb_tree.specs.SplitBox.{IsSplit}
+use Rattle.vdb_tree.proofs.Common.{◌≡◌, ◌≢◌, ◌<◌, ℕ, true, false, IsTrue, refl, sym, ap, subst, ◌∙◌, inl, inr, length, get_or_default, block_around, block_number, key, offset, sub_block, AreBits, everywhere, is_inside, Bits, Coord, Level, Leaf, Lower, Upper, not_true, block_in_range, corner_of_entry, inside_numbered, lower_from_leaf, number_in_block, upper_from_lower, entries_is, offset_below, is_on, cell_in, IsConstantLeaf, entry_count, Child, Tile, Cell, Field, fill, off, AreSameCells, IsAlteredIn, Layout, background_cell, cell_at, entry_over, field_of, lower_entry, root_at, with_leaf, IsSplit}
+use Rattle.vdb_node.specs.Leaf.{Leaf as LeafOf}
 use Rattle.vdb_tree.proofs.Descents.{lower_by_block, tile_cell, tile_lower, tile_upper}
 use Rattle.vdb_tree.proofs.Fields.{cell_inside, same_cells}
 use Rattle.vdb_tree.proofs.Levels.{coord_cases, like_coords, tile_no_child, unlike_coords}

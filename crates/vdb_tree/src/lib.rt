@@ -9,7 +9,7 @@
 //!
 //! The modules (several call each other, so the list shows subjects, not layers):
 //! - `refusal`, `path`, `node_counts`: errors and results of calls.
-//! - `root`, `tree`, `nodes`, `keys`, `whole_copy`: the root table, the type with its pools of nodes, and whole copies.
+//! - `root`, `tree`, `nodes`, `keys`: the root table and the type with its pools of nodes.
 //! - `queries`: descents, leaves, paths, walks over the parts of a tree, tests for blocks of one cell.
 //! - `edits`: splits of tiles into nodes, writes of a voxel or a whole leaf, leaves in place of active tiles.
 //! - `boxes`: splits of a tree along the edge of a box, and painting of the box with one cell.
@@ -32,7 +32,6 @@ mod refusal;
 mod root;
 mod sweeps;
 mod tree;
-mod whole_copy;
 
 pub use node_counts::NodeCounts;
 pub use pairs::StateRule;

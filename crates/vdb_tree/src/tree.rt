@@ -1,6 +1,6 @@
 //! The tree itself.
 
-ghost use Rattle.std.specs.Prelude.{◌≡◌, ◌<◌, ◌≤◌, ◌↔◌, [], IfSome, IsTrue};
+ghost use Rattle.std.specs.Prelude.{◌≡◌, ◌<◌, ◌≤◌, ◌↔◌, [], IfSome, IsTrue, IfErr, IfOk};
 ghost use Rattle.vdb_coord.specs.Blocks.{block_number, block_numbers, key, node_bits, offset};
 ghost use Rattle.vdb_coord.specs.Entries.{AreBits};
 ghost use Rattle.vdb_coord.specs.Space.{is_inside};
@@ -9,17 +9,21 @@ ghost use Rattle.vdb_coord.specs.declared.Coord.{Coord};
 ghost use Rattle.vdb_coord.specs.declared.Level.TheVariants.{Upper};
 ghost use Rattle.vdb_node.specs.Nodes.{entry_count};
 ghost use Rattle.vdb_tree.specs.Field.{new};
-ghost use Rattle.vdb_tree.specs.Layout.{bits_of, field_of};
+ghost use Rattle.vdb_tree.specs.Layout.{background_cell, bits_of, field_of};
 ghost use Rattle.vdb_tree.specs.ConstantBlocks.{roots};
 ghost use Rattle.vdb_tree.specs.SplitBox.{IsCovered};
 ghost use Rattle.vdb_tree.specs.Sound.{IsConfigured};
+ghost use Rattle.vdb_tree.specs.Nodes.{IsSameTree};
+ghost use Rattle.vdb_tree.specs.declared.refusal.TreeRefusal.TheVariants.{Memory};
 
+use crate::TreeRefusal;
 use crate::root::RootTable;
 use std::alloc::Global;
 use std::marker::Model;
 use vdb_coord::{Bits, Bounds, Coord, Level};
 use vdb_node::{Internal, Leaf, Stored};
 use vdb_pool::Pool;
+use vdb_value::Cell;
 
 /// A sparse grid: a root table over three pools of nodes, with upper nodes of 2 to the power `U` entries along each axis,
 /// lower ones of 2 to the power `L` and leaves of 2 to the power `F`, whose masks have `WU`, `WL` and `WF` words.
@@ -131,6 +135,17 @@ impl<
         self.background
     }
 
+    /// Returns the cell of a voxel that was never written: the inactive background.
+    #[inline(always)]
+    pub(crate) fn background_cell(&self) -> Cell<V>
+        ensures { result ≡ background_cell self.now }
+    {
+        Cell {
+            value: self.background,
+            on: false,
+        }
+    }
+
     /// Returns how many entries the root table may have. At most this number of upper extents have a cell other than the
     /// inactive background.
     pub fn limit(&self) -> u32
@@ -205,5 +220,30 @@ impl<
         ensures nearer { IfSome result (λ next. coordinates_after next < coordinates_after p) }
     {
         bounds.next_block_in(self.bits(), level, p)
+    }
+
+    /// Returns a tree with the same cells, background and limit, and with a root table and nodes of its own, so that a write to
+    /// one leaves the other as it is (OpenVDB's `Grid::deepCopy`, by the copy constructor of `Tree`). It has the same tiles and
+    /// nodes. `Memory`: an allocation failed; the partial copy is dropped. It passes over each node once, and counts no visit.
+    pub fn try_copy(&self) -> Result<Self, TreeRefusal>
+        ensures field { IfOk result (λ copy. field_of (bits_of U L F) copy ≡ field_of (bits_of U L F) self.now) }
+        ensures limit { IfOk result (λ copy. copy.limit ≡ self.now.limit) }
+        ensures same { IfOk result (IsSameTree (bits_of U L F) self.now) }
+        ensures memory { IfErr result (λ refusal. refusal ≡ Memory) }
+    {
+        let root = self.root.try_copy(self.alloc)?;
+        let uppers = self.uppers.try_copy()?;
+        let lowers = self.lowers.try_copy()?;
+        let leaves = self.leaves.try_copy()?;
+        Ok(TreeOf {
+            alloc: self.alloc,
+            background: self.background,
+            limit: self.limit,
+            root,
+            swept: self.swept,
+            uppers,
+            lowers,
+            leaves,
+        })
     }
 }

@@ -1,29 +1,6 @@
 -- Counts the active voxels of a box block by block.
-use Rattle.std.proofs.Common.{◌≡◌, ◌⊎◌, inl, inr, sym, ap, ◌∙◌, refl, subst, ℕ, ◌+◌, ◌<◌, ◌≤◌, ◌^◌, Bool, true, false, not, ◌&&◌, arith, []}
-use Rattle.std.specs.Prelude.{IfSome, Option, Some, None}
-use Rattle.std.specs.List.{filter}
-use Rattle.std.proofs.lemmas.List.Sums.{length-filter}
-use Rattle.vdb_coord.specs.Blocks.{block_around, block_number}
-use Rattle.vdb_coord.specs.Boxes.{is_bounds}
-use Rattle.vdb_coord.specs.Order.{ComesBefore, IsNextCoord, IsUpToBlock, coordinates_past}
-use Rattle.vdb_coord.specs.Space.{Box, coord_eq, coordinates, everywhere, is_box, is_inside, is_within}
-use Rattle.vdb_coord.specs.declared.Bits.{Bits}
-use Rattle.vdb_coord.specs.declared.Coord.{Coord}
-use Rattle.vdb_coord.specs.declared.Level.{Level}
-use Rattle.vdb_coord.proofs.BlockOrder.{comes_on, contiguous, fewer_past, not_before_min, not_both, not_itself}
-use Rattle.vdb_coord.proofs.Boxes.{both}
-use Rattle.vdb_coord.proofs.CountBounds.{member_passing}
-use Rattle.vdb_coord.proofs.Counts.{distinct_filter}
-use Rattle.vdb_coord.proofs.Distinct.{distinct_coordinates}
-use Rattle.vdb_coord.proofs.Meeting.{within_each}
-use Rattle.vdb_coord.proofs.Nesting.{inside_numbered, number_in_block}
-use Rattle.vdb_coord.proofs.Walk.{min_inside}
-use Rattle.vdb_tree.specs.Layout.{Layout, field_of}
-use Rattle.vdb_tree.specs.Parts.{is_left}
-use Rattle.vdb_tree.specs.ConstantBlocks.{count}
-use Rattle.vdb_tree.specs.declared.queries.parts.Skip.TheVariants.{Inactive}
-use Rattle.vdb_tree.proofs.PartStarts.{gone_before}
-use Rattle.vdb_walk.specs.internal.BlocksFrom.{IsBoxStart, IsSkippedTo, active_around, active_from}
+use Rattle.vdb_walk.proofs.Common.{◌≡◌, ◌⊎◌, inl, inr, sym, ap, ◌∙◌, refl, subst, ℕ, ◌+◌, ◌<◌, ◌≤◌, ◌^◌, Bool, true, false, not, ◌&&◌, arith, [], IfSome, Option, Some, None, filter, length-filter, block_around, block_number, is_bounds, ComesBefore, IsNextCoord, IsUpToBlock, coordinates_past, Box, coord_eq, coordinates, everywhere, is_box, is_inside, is_within, Bits, Coord, Level, comes_on, contiguous, fewer_past, not_before_min, not_both, not_itself, both, member_passing, distinct_filter, distinct_coordinates, within_each, inside_numbered, number_in_block, min_inside, Layout, field_of, is_left, count, Inactive, gone_before, IsBoxStart, IsSkippedTo, active_from}
+use Rattle.vdb_walk.specs.internal.BlocksFrom.{active_around}
 use Rattle.vdb_walk.proofs.Counts.{count_few, none_on, nothing_apart, volume_few}
 use Rattle.vdb_walk.proofs.NonConstantBlocks.{false_true, from_on, left_from, past_both, true_or_false}
 use Rattle.vdb_walk.proofs.PartCounts.{count_listed, count_split, left_first}

@@ -1,30 +1,16 @@
 -- Boxes cut along the edges of blocks, in block order.
-use Rattle.std.proofs.Common.{◌≡◌, ◌⊎◌, inl, inr, sym, ap, ◌∙◌, refl, subst, ℕ, ℤ, pos, suc, ◌+◌, ◌*◌, ◌<◌, ◌≤◌, ◌^◌, ◌-ℤ◌, ◌+ℤ◌, ◌*ℤ◌, ◌≤ℤ◌, ◌<ℤ◌, Bool, true, false, ◌||◌, int_le, arith, SFits, w32}
-use Rattle.std.specs.Prelude.{IfSome, Option, Some, None}
-use Rattle.std.specs.Ordering.{is_lt}
-use Rattle.std.specs.Cmp.{int_cmp_is, nat_cmp_is}
-use Rattle.std.specs.Ordering.{int_cmp, nat_cmp}
-use Rattle.std.specs.declared.cmp.Ordering.TheVariants.{Less, Equal}
-use Rattle.std.proofs.lemmas.Cmp.{tied_itself}
-use Rattle.std.proofs.lemmas.Int.{ints}
+use Rattle.vdb_walk.proofs.Common.{◌≡◌, ◌⊎◌, inl, inr, sym, ap, ◌∙◌, refl, subst, ℕ, ℤ, pos, suc, ◌+◌, ◌*◌, ◌<◌, ◌≤◌, ◌^◌, ◌-ℤ◌, ◌+ℤ◌, ◌≤ℤ◌, ◌<ℤ◌, Bool, true, false, ◌||◌, int_le, arith, SFits, w32, IfSome, Option, Some, None, is_lt, int_cmp_is, int_cmp, Less, Equal, tied_itself, ints, block_bits, block_cmp, block_number, key, node_bits, offset, digit, first_of, number_at, Box, coord, coord_cmp, is_between, is_box, is_inside, IsBefore, Bits, Coord, Level, Leaf, Lower, Upper, both, three, number_mono, begins_by, le_from_test, lower_from_leaf, offset_from_entry, upper_from_lower, joined, offset_is, from_key, from_lower, from_upper, AreInBlockOrder, IsHalved, numbers}
+use Rattle.std.proofs.Common.{◌*ℤ◌}
+use Rattle.std.specs.Cmp.{nat_cmp_is}
+use Rattle.std.specs.Ordering.{nat_cmp}
 use Rattle.std.proofs.Math.Nat.{mul-le-mul_right}
-use Rattle.vdb_coord.specs.Blocks.{block_bits, block_cmp, block_number, entry_bits, key, node_bits, offset}
-use Rattle.vdb_coord.specs.Components.{digit, first_of, number_at}
+use Rattle.vdb_coord.specs.Blocks.{entry_bits}
 use Rattle.vdb_coord.specs.Entries.{entry_number}
-use Rattle.vdb_coord.specs.Space.{Box, coord, coord_cmp, is_between, is_box, is_inside}
-use Rattle.vdb_coord.specs.Walk.{IsBefore}
-use Rattle.vdb_coord.specs.declared.Bits.{Bits}
-use Rattle.vdb_coord.specs.declared.Coord.{Coord}
-use Rattle.vdb_coord.specs.declared.Level.{Level}
-use Rattle.vdb_coord.specs.declared.Level.TheVariants.{Leaf, Lower, Upper}
-use Rattle.vdb_coord.proofs.Boxes.{both, three}
-use Rattle.vdb_coord.proofs.Digits.{digit_below, number_mono, number_split}
-use Rattle.vdb_coord.proofs.Meeting.{begins_by, le_from_test, number_of_first}
+use Rattle.vdb_coord.proofs.Digits.{digit_below, number_split}
+use Rattle.vdb_coord.proofs.Meeting.{number_of_first}
 use Rattle.vdb_coord.proofs.Members.{coord_total}
-use Rattle.vdb_coord.proofs.Nesting.{lower_from_leaf, offset_from_entry, upper_from_lower}
-use Rattle.vdb_coord.proofs.Positions.{block_bits_split, joined, offset_is}
-use Rattle.vdb_coord.proofs.BlockOrder.{from_key, from_lower, from_upper}
-use Rattle.vdb_walk.specs.internal.Halves.{AreInBlockOrder, AreOrdered, IsHalved, numbers}
+use Rattle.vdb_coord.proofs.Positions.{block_bits_split}
+use Rattle.vdb_walk.specs.internal.Halves.{AreOrdered}
 use Rattle.vdb_walk.proofs.Cuts.{below_x, below_y, below_z, from_x, from_y, from_z}
 
 ends : (a x c : ℤ) → is_between a c x ≡ true → (a ≤ℤ x) × (x ≤ℤ c)

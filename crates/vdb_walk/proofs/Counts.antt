@@ -1,22 +1,11 @@
 -- Counts of the active voxels of boxes.
-use Rattle.std.proofs.Common.{◌≡◌, sym, ap, ◌∙◌, refl, ◌+◌, ◌≤◌, ◌^◌, Bool, true, false, not, ◌&&◌, ◌||◌, List, [], length, arith, IsTrue}
-use Rattle.std.specs.List.{IsDistinct, filter}
-use Rattle.std.proofs.lemmas.List.Filters.{length-filter_both}
-use Rattle.std.proofs.lemmas.List.Sums.{count_by-le-length, length-filter}
-use Rattle.std.proofs.lemmas.Map.Made.{is_member-filter, length-from_same_keys, length-le_from_is_member}
-use Rattle.vdb_coord.specs.Boxes.{is_bounds}
-use Rattle.vdb_coord.specs.Space.{Box, coord_eq, coordinates, everywhere, is_box, is_inside, is_within, volume}
-use Rattle.vdb_coord.specs.declared.Coord.{Coord}
-use Rattle.vdb_coord.proofs.Boxes.{both}
-use Rattle.vdb_coord.proofs.CountBounds.{member_passing}
-use Rattle.vdb_coord.proofs.Counts.{count_by_members, distinct_filter}
-use Rattle.vdb_coord.proofs.Distinct.{distinct_coordinates}
-use Rattle.vdb_coord.proofs.Meeting.{within_each}
-use Rattle.vdb_coord.proofs.Members.{coord_equiv, coord_exact, member_coordinates}
+use Rattle.vdb_walk.proofs.Common.{◌≡◌, sym, ap, ◌∙◌, refl, ◌+◌, ◌≤◌, ◌^◌, Bool, true, false, not, ◌&&◌, ◌||◌, List, [], length, arith, IsTrue, filter, length-filter_both, length-filter, is_member-filter, length-from_same_keys, is_bounds, Box, coord_eq, coordinates, everywhere, is_box, is_inside, is_within, Coord, both, member_passing, count_by_members, distinct_filter, distinct_coordinates, within_each, coord_equiv, coord_exact, Field, count, IsHalved}
+use Rattle.std.specs.List.{IsDistinct}
+use Rattle.std.proofs.lemmas.List.Sums.{count_by-le-length}
+use Rattle.std.proofs.lemmas.Map.Made.{length-le_from_is_member}
+use Rattle.vdb_coord.specs.Space.{volume}
+use Rattle.vdb_coord.proofs.Members.{member_coordinates}
 use Rattle.vdb_coord.proofs.Volume.{length_coordinates}
-use Rattle.vdb_tree.specs.Field.{Field}
-use Rattle.vdb_tree.specs.ConstantBlocks.{count}
-use Rattle.vdb_walk.specs.internal.Halves.{IsHalved}
 
 -- ---- booleans
 

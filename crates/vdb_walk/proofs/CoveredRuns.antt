@@ -1,22 +1,8 @@
 -- What follows a coordinate in block order, within one node.
-use Rattle.std.proofs.Common.{◌≡◌, ◌⊎◌, inl, inr, sym, ap, ◌∙◌, refl, subst, ℕ, ℤ, ◌≤ℤ◌, ◌<ℤ◌, true, arith}
-use Rattle.std.specs.Prelude.{IfSome, IsTrue, None, Option, Some}
-use Rattle.std.proofs.lemmas.Int.{ints}
-use Rattle.vdb_coord.specs.Blocks.{block_around, block_bits, block_number}
-use Rattle.vdb_coord.specs.Components.{first_of, last_of, number_at}
-use Rattle.vdb_coord.specs.Order.{ComesBefore, IsNextCoord, IsUpToBlock}
-use Rattle.vdb_coord.specs.Space.{Box, coord, everywhere, is_inside, is_within}
-use Rattle.vdb_coord.specs.Walk.{IsBefore, IsBlockBefore}
-use Rattle.vdb_coord.specs.declared.Bits.{Bits}
-use Rattle.vdb_coord.specs.declared.Coord.{Coord}
-use Rattle.vdb_coord.specs.declared.Level.{Level}
-use Rattle.vdb_coord.specs.declared.Level.TheVariants.{Leaf, Lower, Upper}
-use Rattle.vdb_coord.proofs.BlockOrder.{before_not_same, by_leaf, by_lower, by_upper, contiguous, not_both}
-use Rattle.vdb_coord.proofs.Boxes.{both}
-use Rattle.vdb_coord.proofs.Meeting.{begins_by, ends_by, le_from_test, test_from_le, within_each}
-use Rattle.vdb_coord.proofs.Nesting.{inside_around, inside_numbered, lower_from_leaf, number_in_block, upper_from_lower}
-use Rattle.vdb_coord.proofs.Walk.{inside_from, inside_parts}
-use Rattle.vdb_walk.specs.internal.Covered.{IsCoveredTo, IsCoveredUpTo, node_of}
+use Rattle.vdb_walk.proofs.Common.{◌≡◌, ◌⊎◌, inl, inr, sym, ap, ◌∙◌, refl, subst, ℕ, ℤ, ◌≤ℤ◌, ◌<ℤ◌, true, arith, IfSome, IsTrue, None, Option, Some, ints, block_around, block_bits, block_number, first_of, last_of, number_at, ComesBefore, IsNextCoord, IsUpToBlock, Box, coord, everywhere, is_inside, is_within, IsBefore, IsBlockBefore, Bits, Coord, Level, Leaf, Lower, Upper, contiguous, not_both, both, begins_by, le_from_test, test_from_le, within_each, inside_around, inside_numbered, lower_from_leaf, number_in_block, upper_from_lower, inside_from, inside_parts, IsCoveredUpTo, node_of}
+use Rattle.vdb_coord.proofs.BlockOrder.{before_not_same, by_leaf, by_lower, by_upper}
+use Rattle.vdb_coord.proofs.Meeting.{ends_by}
+use Rattle.vdb_walk.specs.internal.Covered.{IsCoveredTo}
 
 -- ---- numbers
 

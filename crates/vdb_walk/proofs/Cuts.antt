@@ -1,13 +1,6 @@
 -- A box cut in two along an axis.
-use Rattle.std.proofs.Common.{◌≡◌, refl, ◌<◌, ℤ, pos, ◌-ℤ◌, ◌≤ℤ◌, ◌<ℤ◌, Bool, true, false, not, ◌&&◌, ◌||◌, int_le, SFits, arith, of_z, to_z, w32}
-use Rattle.std.specs.Prelude.{unsigned_abs}
+use Rattle.vdb_walk.proofs.Common.{◌≡◌, refl, ◌<◌, ℤ, pos, ◌-ℤ◌, ◌≤ℤ◌, ◌<ℤ◌, Bool, true, false, not, ◌&&◌, ◌||◌, int_le, SFits, arith, of_z, to_z, w32, unsigned_abs, ints, to_z-of_z, Box, coord, is_between, is_box, Coord, both, three, together, test_from_le, IsHalved}
 use Rattle.std.specs.Ordering.{int_eq}
-use Rattle.std.proofs.lemmas.Int.{ints, to_z-of_z}
-use Rattle.vdb_coord.specs.Space.{Box, coord, is_between, is_box}
-use Rattle.vdb_coord.specs.declared.Coord.{Coord}
-use Rattle.vdb_coord.proofs.Boxes.{both, three, together}
-use Rattle.vdb_coord.proofs.Meeting.{test_from_le}
-use Rattle.vdb_walk.specs.internal.Halves.{IsHalved}
 
 -- the part of a box below a number along an axis, and the part from that number on
 abbrev pub below_x : Box → ℤ → Box

@@ -1,24 +1,6 @@
 -- The first coordinate of a box in block order.
-use Rattle.std.proofs.Common.{◌≡◌, ◌⊎◌, inl, inr, sym, ap, ◌∙◌, refl, subst, ℕ, ℤ, ◌≤ℤ◌, ◌<ℤ◌, true, false, arith, IsTrue}
-use Rattle.std.specs.Prelude.{Option, Some, None}
-use Rattle.std.specs.Ordering.{is_lt}
-use Rattle.std.specs.declared.cmp.Ordering.{Ordering}
-use Rattle.std.specs.declared.cmp.Ordering.TheVariants.{Less, Equal, Greater}
-use Rattle.std.proofs.lemmas.Cmp.{tied_itself}
-use Rattle.std.proofs.lemmas.Int.{ints}
-use Rattle.vdb_coord.specs.Blocks.{block_bits, block_cmp, is_past, key}
-use Rattle.vdb_coord.specs.Space.{Box, is_box, is_inside}
-use Rattle.vdb_coord.specs.Walk.{IsBefore}
-use Rattle.vdb_coord.specs.declared.Bits.{Bits}
-use Rattle.vdb_coord.specs.declared.Coord.{Coord}
-use Rattle.vdb_coord.specs.declared.Level.TheVariants.{Leaf, Lower, Upper}
-use Rattle.vdb_coord.proofs.Digits.{number_mono, number_zero}
-use Rattle.vdb_coord.proofs.Nesting.{block_total, offset_from_entry}
-use Rattle.vdb_coord.proofs.Walk.{min_inside}
-use Rattle.vdb_coord.proofs.BlockOrder.{from_key, from_lower, from_upper, not_after, precedes}
-use Rattle.vdb_tree.proofs.Rooted.{or_cases}
-use Rattle.vdb_walk.specs.internal.Firsts.{IsFirst}
-use Rattle.vdb_walk.specs.internal.Halves.{AreInBlockOrder, IsHalved, numbers}
+use Rattle.vdb_walk.proofs.Common.{◌≡◌, ◌⊎◌, inl, inr, sym, ap, ◌∙◌, refl, subst, ℕ, ℤ, ◌≤ℤ◌, ◌<ℤ◌, true, false, arith, IsTrue, Option, Some, None, is_lt, Ordering, Less, Equal, Greater, tied_itself, ints, block_bits, block_cmp, is_past, key, Box, is_box, is_inside, IsBefore, Bits, Coord, Leaf, Lower, Upper, number_mono, number_zero, block_total, offset_from_entry, min_inside, from_key, from_lower, from_upper, precedes, or_cases, IsFirst, AreInBlockOrder, IsHalved, numbers}
+use Rattle.vdb_coord.proofs.BlockOrder.{not_after}
 use Rattle.vdb_walk.proofs.BoxOrder.{between_x, between_y, between_z, from_leaf, in_half, in_other, key_less, offset_less}
 use Rattle.vdb_walk.proofs.Keys.{IsUpTo}
 

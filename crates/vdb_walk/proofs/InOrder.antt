@@ -1,25 +1,11 @@
 -- Lists of coordinates in block order: the first that passes a test, and those past it.
-use Rattle.std.proofs.Common.{◌≡◌, ◌⊎◌, inl, inr, sym, ap, ◌∙◌, refl, subst, Bool, true, false, ◌&&◌, ◌||◌, List, [], ◌∷◌, IsTrue}
-use Rattle.std.specs.Prelude.{⊤, ◌↔◌, ◌≢◌, Option, Some, None, IfSome, is_some, option_map, map, filter, fold}
-use Rattle.std.specs.List.{find}
-use Rattle.std.specs.Set.{is_member}
+use Rattle.vdb_walk.proofs.Common.{◌≡◌, ◌⊎◌, inl, inr, sym, ap, ◌∙◌, refl, subst, Bool, true, false, ◌&&◌, ◌||◌, List, [], ◌∷◌, IsTrue, ◌↔◌, Option, Some, None, IfSome, is_some, option_map, find, is_member, is_lt, Ordering, Less, Equal, Greater, block_cmp, is_past, Box, coord_eq, coordinates, is_inside, Bits, Coord, and_true, both, member_passing, coord_exact, block_total, or_cases, or_first, or_second, Field, IsActivePast, IsFirst, active, past}
+use Rattle.std.specs.Prelude.{⊤, ◌≢◌, map, filter, fold}
 use Rattle.std.specs.BTreeSet.{insert_key}
-use Rattle.std.specs.Ordering.{is_lt, ordering_reverse}
-use Rattle.std.specs.declared.cmp.Ordering.{Ordering}
-use Rattle.std.specs.declared.cmp.Ordering.TheVariants.{Less, Equal, Greater}
-use Rattle.vdb_coord.specs.Blocks.{block_cmp, is_past}
-use Rattle.vdb_coord.specs.Space.{Box, coord_eq, coordinates, is_inside}
-use Rattle.vdb_coord.specs.declared.Bits.{Bits}
-use Rattle.vdb_coord.specs.declared.Coord.{Coord}
-use Rattle.vdb_coord.proofs.Boxes.{and_true, both}
-use Rattle.vdb_coord.proofs.CountBounds.{member_passing}
-use Rattle.vdb_coord.proofs.Members.{coord_exact}
-use Rattle.vdb_coord.proofs.Nesting.{block_exact, block_total}
+use Rattle.std.specs.Ordering.{ordering_reverse}
+use Rattle.vdb_coord.proofs.Nesting.{block_exact}
 use Rattle.vdb_tree.proofs.Levels.{like_coords}
-use Rattle.vdb_tree.proofs.Rooted.{or_cases, or_first, or_second}
-use Rattle.vdb_tree.specs.Field.{Field}
-use Rattle.vdb_walk.specs.internal.Firsts.{IsActivePast, IsFirst}
-use Rattle.vdb_walk.specs.Reports.{active, in_block_order, past}
+use Rattle.vdb_walk.specs.Reports.{in_block_order}
 use Rattle.vdb_walk.proofs.Firsts.{comes_on, never_back, never_itself}
 
 false_true : false ≡ true → ⊥

@@ -1,17 +1,7 @@
 -- The first voxel of a leaf that is on.
-use Rattle.std.proofs.Common.{◌≡◌, ◌⊎◌, inl, inr, sym, ◌∙◌, subst, ℕ, ◌+◌, ◌<◌, ◌≤◌, true, false, List, Bool, arith}
-use Rattle.std.specs.Prelude.{Option, Some, None}
+use Rattle.vdb_walk.proofs.Common.{◌≡◌, ◌⊎◌, inl, inr, sym, ◌∙◌, subst, ℕ, ◌+◌, ◌<◌, ◌≤◌, true, false, List, Bool, arith, Option, Some, None, is_lt, block_cmp, block_number, is_past, offset, Box, is_box, is_inside, Bits, Coord, Leaf, Lower, Upper, lower_from_leaf, offset_from_entry, upper_from_lower, voxel_from_leaf, min_inside, IsFirst, IsInLeafBlock, IsOnPast, IsPastLast, IsInFirstBlock, IsNextSet}
 use Rattle.std.specs.Option.{option_map}
-use Rattle.std.specs.Ordering.{is_lt}
-use Rattle.vdb_coord.specs.Blocks.{block_cmp, block_number, is_past, offset}
-use Rattle.vdb_coord.specs.Space.{Box, is_box, is_inside}
-use Rattle.vdb_coord.specs.declared.Bits.{Bits}
-use Rattle.vdb_coord.specs.declared.Coord.{Coord}
-use Rattle.vdb_coord.specs.declared.Level.TheVariants.{Leaf, Lower, Upper}
-use Rattle.vdb_coord.proofs.Nesting.{lower_from_leaf, offset_from_entry, upper_from_lower, voxel_from_leaf}
-use Rattle.vdb_coord.proofs.Walk.{min_inside}
-use Rattle.vdb_walk.specs.internal.Firsts.{IsEntryPast, IsFirst, IsInLeafBlock, IsOnPast, IsPastLast}
-use Rattle.vdb_walk.specs.internal.Voxels.{IsInFirstBlock, IsNextSet}
+use Rattle.vdb_walk.specs.internal.Firsts.{IsEntryPast}
 use Rattle.vdb_walk.proofs.BoxOrder.{from_leaf}
 use Rattle.vdb_walk.proofs.Firsts.{never_back, never_itself, past_after}
 

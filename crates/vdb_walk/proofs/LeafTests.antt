@@ -1,23 +1,7 @@
 -- Whether the cells of a leaf block differ, found from its leaf.
-use Rattle.std.proofs.Common.{◌≡◌, sym, ap, ◌∙◌, refl, subst, ℕ, ◌+◌, Bool, true, false, not, IsTrue}
-use Rattle.std.specs.Prelude.{is_some, ◌↔◌, Option, Some, None}
-use Rattle.vdb_coord.specs.Blocks.{block_around, block_number, block_numbers, entries, node_bits, offset}
-use Rattle.vdb_coord.specs.Entries.{AreBits}
-use Rattle.vdb_coord.specs.Space.{Box, everywhere, is_inside}
-use Rattle.vdb_coord.specs.declared.Bits.{Bits}
-use Rattle.vdb_coord.specs.declared.Coord.{Coord}
-use Rattle.vdb_coord.specs.declared.Level.TheVariants.{Leaf}
-use Rattle.vdb_coord.proofs.InRange.{number_in_range, number_of_corner, numbered_in_range}
-use Rattle.vdb_coord.proofs.Nesting.{inside_numbered, number_in_block}
-use Rattle.vdb_node.specs.Leaf.{cell_in, IsConstantLeaf, Leaf as LeafOf}
-use Rattle.vdb_node.specs.Nodes.{entry_count}
-use Rattle.vdb_tree.specs.Field.{Field, off}
-use Rattle.vdb_tree.specs.Layout.{Layout, field_of}
-use Rattle.vdb_tree.specs.Leaves.{IsLeafAround}
-use Rattle.vdb_tree.specs.ConstantBlocks.{is_constant}
+use Rattle.vdb_walk.proofs.Common.{◌≡◌, sym, ap, ◌∙◌, refl, subst, ℕ, ◌+◌, Bool, true, false, not, IsTrue, is_some, ◌↔◌, Option, Some, None, block_around, block_number, block_numbers, entries, node_bits, offset, AreBits, Box, everywhere, is_inside, Bits, Coord, Leaf, number_in_range, number_of_corner, numbered_in_range, inside_numbered, number_in_block, cell_in, IsConstantLeaf, entry_count, Field, off, Layout, field_of, IsLeafAround, is_constant, uniform_cells, uniform_from, Cell}
+use Rattle.vdb_node.specs.Leaf.{Leaf as LeafOf}
 use Rattle.vdb_tree.proofs.Constants.{block_from_node, node_from_block, one_cell}
-use Rattle.vdb_tree.proofs.Uniform.{uniform_cells, uniform_from}
-use Rattle.vdb_value.specs.declared.Cell.{Cell}
 
 none_some : {A : Type 0} (x : A) → ◌≡◌ {A = Option A} None (Some x) → ⊥
 none_some x e = cc

@@ -1,4 +1,5 @@
 -- Lemmas on boxes cut in two, on counts, on the keys of the table, on bounding boxes, and on block order.
+mod Common
 pub mod Counts
 pub mod Cuts
 pub mod Keys

@@ -1,24 +1,8 @@
 -- The next coordinate of a box in block order.
-use Rattle.std.proofs.Common.{◌≡◌, ◌⊎◌, inl, inr, sym, ◌∙◌, refl, ℤ, pos, ◌+ℤ◌, ◌≤ℤ◌, ◌<ℤ◌, ◌&&◌, true, false, arith}
-use Rattle.std.specs.Prelude.{Option, Some, None}
-use Rattle.std.specs.Ordering.{is_lt}
-use Rattle.std.proofs.lemmas.Int.{ints}
-use Rattle.vdb_coord.specs.Blocks.{block_around, block_cmp, block_number}
-use Rattle.vdb_coord.specs.Order.{ComesBefore, IsNextCoord, IsUpToBlock}
-use Rattle.vdb_coord.specs.Space.{Box, coord, is_inside}
-use Rattle.vdb_coord.specs.Walk.{IsBefore}
-use Rattle.vdb_coord.specs.declared.Bits.{Bits}
-use Rattle.vdb_coord.specs.declared.Coord.{Coord}
-use Rattle.vdb_coord.specs.declared.Level.TheVariants.{Leaf}
-use Rattle.vdb_coord.proofs.BlockOrder.{by_voxel, contiguous, not_both, not_same, which_before}
-use Rattle.vdb_coord.proofs.Boxes.{and_true, both}
-use Rattle.vdb_coord.proofs.Nesting.{inside_numbered, number_in_block}
-use Rattle.vdb_coord.proofs.Walk.{inside_from, inside_parts, up_to_x}
-use Rattle.vdb_tree.proofs.Levels.{bool_cases}
-use Rattle.vdb_walk.specs.internal.Firsts.{IsFirst, IsNextVoxel, IsPastLast}
-
-false_true : false ≡ true → ⊥
-false_true e = cc
+use Rattle.vdb_walk.proofs.Common.{◌≡◌, ◌⊎◌, inl, inr, sym, ◌∙◌, refl, ℤ, pos, ◌+ℤ◌, ◌≤ℤ◌, ◌<ℤ◌, ◌&&◌, true, arith, Option, Some, None, is_lt, ints, block_around, block_cmp, block_number, ComesBefore, IsNextCoord, IsUpToBlock, Box, coord, is_inside, IsBefore, Bits, Coord, Leaf, contiguous, not_both, and_true, both, inside_numbered, number_in_block, inside_from, inside_parts, bool_cases, IsFirst, IsPastLast}
+use Rattle.vdb_coord.proofs.BlockOrder.{by_voxel, not_same, which_before}
+use Rattle.vdb_coord.proofs.Walk.{up_to_x}
+use Rattle.vdb_walk.specs.internal.Firsts.{IsNextVoxel}
 
 same_le : (x y : ℤ) → x ≡ y → x ≤ℤ y
 same_le x y e = omega (arith, ints, e)

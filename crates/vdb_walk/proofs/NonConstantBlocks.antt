@@ -1,31 +1,7 @@
 -- Counts of the blocks of a level, from a coordinate on, whose cells differ.
-use Rattle.std.proofs.Common.{◌≡◌, ◌⊎◌, inl, inr, sym, ap, ◌∙◌, refl, subst, ℕ, ◌+◌, ◌<◌, ◌≤◌, Bool, true, false, not, ◌&&◌, ◌||◌, cond, [], ◌∷◌, arith, IsTrue}
-use Rattle.std.specs.Prelude.{IfSome, Option, Some, None}
-use Rattle.std.specs.Ordering.{is_lt}
-use Rattle.vdb_coord.specs.Blocks.{block, block_around, block_cmp, block_number, block_numbers}
-use Rattle.vdb_coord.specs.Entries.{AreBits}
-use Rattle.vdb_coord.specs.Order.{ComesBefore, IsNextCoord, IsUpToBlock, coordinates_past}
-use Rattle.vdb_coord.specs.Space.{Box, coord_eq, everywhere, is_inside, is_within}
-use Rattle.vdb_coord.specs.declared.Bits.{Bits}
-use Rattle.vdb_coord.specs.declared.Coord.{Coord}
-use Rattle.vdb_coord.specs.declared.Level.{Level}
-use Rattle.vdb_coord.specs.declared.Level.TheVariants.{Leaf, Lower, Upper}
-use Rattle.vdb_coord.proofs.BlockOrder.{comes_on, contiguous, fewer_past, not_before_min, not_both, not_itself, which_first}
-use Rattle.vdb_coord.proofs.Boxes.{not_true, same_truth}
-use Rattle.vdb_coord.proofs.InRange.{corner_in_range, number_in_range, number_of_corner, numbered_in_range}
-use Rattle.vdb_coord.proofs.Meeting.{within_each}
-use Rattle.vdb_coord.proofs.Members.{coord_equiv, coord_exact}
-use Rattle.vdb_coord.proofs.Nesting.{inside_numbered, lower_from_leaf, number_in_block, upper_from_lower}
-use Rattle.vdb_tree.specs.Field.{Field, off}
-use Rattle.vdb_tree.specs.Layout.{Layout, field_of}
-use Rattle.vdb_tree.specs.Parts.{is_left}
-use Rattle.vdb_tree.specs.ConstantBlocks.{is_constant, non_constant}
-use Rattle.vdb_tree.specs.declared.queries.parts.Skip.TheVariants.{Background}
-use Rattle.vdb_tree.proofs.PartStarts.{gone_before}
-use Rattle.vdb_tree.proofs.Rooted.{one_more}
-use Rattle.vdb_tree.proofs.Uniform.{uniform_cells, uniform_from}
-use Rattle.vdb_value.specs.declared.Cell.{Cell}
-use Rattle.vdb_walk.specs.internal.BlocksFrom.{IsBlockAt, IsBoxStart, IsSkippedTo, non_constant_from}
+use Rattle.vdb_walk.proofs.Common.{◌≡◌, ◌⊎◌, inl, inr, sym, ap, ◌∙◌, refl, subst, ℕ, ◌+◌, ◌<◌, ◌≤◌, Bool, true, false, not, ◌&&◌, ◌||◌, cond, [], ◌∷◌, arith, IsTrue, IfSome, Option, Some, None, is_lt, block, block_around, block_cmp, block_number, block_numbers, AreBits, ComesBefore, IsNextCoord, IsUpToBlock, coordinates_past, Box, coord_eq, everywhere, is_inside, is_within, Bits, Coord, Level, Leaf, Lower, Upper, comes_on, contiguous, fewer_past, not_before_min, not_both, not_itself, not_true, same_truth, corner_in_range, number_in_range, number_of_corner, numbered_in_range, within_each, coord_equiv, coord_exact, inside_numbered, lower_from_leaf, number_in_block, upper_from_lower, Field, off, Layout, field_of, is_left, is_constant, non_constant, Background, gone_before, one_more, uniform_cells, uniform_from, Cell, IsBoxStart, IsSkippedTo, non_constant_from}
+use Rattle.vdb_coord.proofs.BlockOrder.{which_first}
+use Rattle.vdb_walk.specs.internal.BlocksFrom.{IsBlockAt}
 use Rattle.vdb_walk.proofs.Counts.{none_on, nothing_apart}
 use Rattle.vdb_walk.proofs.PartCounts.{count_alike, count_listed, count_split}
 

@@ -1,37 +1,9 @@
 -- Leaf blocks whose cells differ, counted from leaf to leaf.
-use Rattle.std.proofs.Common.{◌≡◌, inl, inr, sym, ap, ◌∙◌, refl, subst, ℕ, ℤ, pos, ◌*◌, ◌+◌, ◌^◌, ◌+ℤ◌, ◌<◌, Bool, true, false, not, ◌&&◌, cond, [], ◌∷◌, arith}
-use Rattle.std.proofs.lemmas.Int.{ints}
-use Rattle.std.proofs.lemmas.Nat.{pow_pos}
-use Rattle.std.specs.Prelude.{IfSome, Option, Some, None}
-use Rattle.std.specs.Ordering.{is_lt}
-use Rattle.vdb_coord.specs.Blocks.{block, block_around, block_cmp, block_number, block_numbers, offset}
-use Rattle.vdb_coord.specs.Components.{digit, first_of}
-use Rattle.vdb_coord.specs.Entries.{AreBits}
-use Rattle.vdb_coord.specs.Order.{ComesBefore, coordinates_past}
-use Rattle.vdb_coord.specs.Space.{coord_eq, everywhere, is_inside}
-use Rattle.vdb_coord.specs.declared.Bits.{Bits}
-use Rattle.vdb_coord.specs.declared.Coord.{Coord}
-use Rattle.vdb_coord.specs.declared.Level.TheVariants.{Leaf}
-use Rattle.vdb_coord.proofs.BlockOrder.{comes_on, fewer_past, first_unless, not_before_min, not_itself, same_from_neither}
-use Rattle.vdb_coord.proofs.Boxes.{not_true, same_truth}
-use Rattle.vdb_coord.proofs.Digits.{digit_is, number_zero}
-use Rattle.vdb_coord.proofs.Division.{rest, rest_of}
-use Rattle.vdb_coord.proofs.InRange.{corner_in_range, number_in_range, number_of_corner, numbered_in_range}
-use Rattle.vdb_coord.proofs.Members.{coord_equiv, coord_exact}
-use Rattle.vdb_coord.proofs.Nesting.{inside_numbered, number_in_block}
-use Rattle.vdb_coord.proofs.Positions.{joined, offset_is}
-use Rattle.vdb_node.specs.declared.Entry.{Entry}
-use Rattle.vdb_node.specs.declared.Entry.TheVariants.{Child, Tile}
-use Rattle.vdb_tree.specs.Field.{Field}
-use Rattle.vdb_tree.specs.Layout.{Layout, field_of, lower_entry}
+use Rattle.vdb_walk.proofs.Common.{◌≡◌, inl, inr, sym, ap, ◌∙◌, refl, subst, ℕ, ℤ, pos, ◌*◌, ◌+◌, ◌^◌, ◌+ℤ◌, ◌<◌, Bool, true, false, not, ◌&&◌, cond, [], ◌∷◌, arith, ints, pow_pos, IfSome, Option, Some, None, is_lt, block, block_around, block_cmp, block_number, block_numbers, offset, digit, first_of, AreBits, ComesBefore, coordinates_past, coord_eq, everywhere, is_inside, Bits, Coord, Leaf, comes_on, fewer_past, not_before_min, not_itself, not_true, same_truth, digit_is, number_zero, rest, rest_of, corner_in_range, number_in_range, number_of_corner, numbered_in_range, coord_equiv, coord_exact, inside_numbered, number_in_block, joined, offset_is, Entry, Child, Tile, Field, Layout, field_of, lower_entry, is_left, is_constant, one_more, uniform_from, IsBoxStart, non_constant_from}
+use Rattle.vdb_coord.proofs.BlockOrder.{first_unless, same_from_neither}
 use Rattle.vdb_tree.specs.Leaves.{IsLeafPast, IsNextLeaf}
-use Rattle.vdb_tree.specs.Parts.{is_left}
 use Rattle.vdb_tree.specs.Paths.{in_leaf, is_child}
-use Rattle.vdb_tree.specs.ConstantBlocks.{is_constant}
 use Rattle.vdb_tree.proofs.LeafBlocks.{tile_around}
-use Rattle.vdb_tree.proofs.Rooted.{one_more}
-use Rattle.vdb_tree.proofs.Uniform.{uniform_from}
-use Rattle.vdb_walk.specs.internal.BlocksFrom.{IsBoxStart, non_constant_from}
 use Rattle.vdb_walk.proofs.Counts.{nothing_apart}
 use Rattle.vdb_walk.proofs.LeafSeeks.{later_in_leaf}
 use Rattle.vdb_walk.proofs.NonConstantBlocks.{denied, false_true, from_on, left_from, no_more, one_of, other_of, with_same}

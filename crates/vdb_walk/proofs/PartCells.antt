@@ -1,31 +1,13 @@
 -- When a walk over parts shows that a box has one cell.
-use Rattle.std.proofs.Common.{◌≡◌, ◌⊎◌, inl, inr, sym, ap, ◌∙◌, refl, subst, ℕ, ◌+◌, ◌<◌, ◌≤◌, Bool, true, false, not, arith, IsTrue}
-use Rattle.std.specs.Prelude.{◌↔◌, Option, Some, None}
-use Rattle.std.specs.Ordering.{is_lt}
-use Rattle.vdb_coord.specs.Blocks.{block_cmp, block_number, entries, key, node_bits, offset}
-use Rattle.vdb_coord.specs.Order.{ComesBefore}
-use Rattle.vdb_coord.specs.Space.{Box, is_box, is_inside}
-use Rattle.vdb_coord.specs.Walk.{IsBlockBefore, IsNextBlock}
-use Rattle.vdb_coord.specs.declared.Bits.{Bits}
-use Rattle.vdb_coord.specs.declared.Coord.{Coord}
-use Rattle.vdb_coord.specs.declared.Level.TheVariants.{Leaf, Upper}
-use Rattle.vdb_coord.proofs.BlockOrder.{not_before_min}
-use Rattle.vdb_coord.proofs.Boxes.{not_true, same_truth}
+use Rattle.vdb_walk.proofs.Common.{◌≡◌, ◌⊎◌, inl, inr, sym, ap, ◌∙◌, refl, subst, ℕ, ◌+◌, ◌<◌, ◌≤◌, Bool, true, false, not, arith, IsTrue, ◌↔◌, Option, Some, None, is_lt, block_cmp, block_number, entries, key, node_bits, offset, ComesBefore, Box, is_box, is_inside, IsBlockBefore, Bits, Coord, Leaf, Upper, not_before_min, not_true, same_truth, corner_of_entry, voxel_from_leaf, entries_is, offset_below, min_inside, IsConstantLeaf, cell_in, entry_count, Field, off, Layout, field_of, root_at, IsPartOfLeaf, IsSkipped, Passes, TreeWalk, YieldsBox, is_left, is_uniform, Skip, Background, cell_exact, uniform_cells, uniform_from, Cell}
+use Rattle.vdb_coord.specs.Walk.{IsNextBlock}
 use Rattle.vdb_coord.proofs.Loops.{corner}
-use Rattle.vdb_coord.proofs.Nesting.{corner_of_entry, voxel_from_leaf}
-use Rattle.vdb_coord.proofs.Positions.{entries_is, offset_below}
-use Rattle.vdb_coord.proofs.Walk.{min_inside, none_before}
-use Rattle.vdb_node.specs.Leaf.{IsConstantLeaf, cell_in, Leaf as LeafOf}
-use Rattle.vdb_node.specs.Nodes.{entry_count}
-use Rattle.vdb_tree.specs.Field.{Field, off}
-use Rattle.vdb_tree.specs.Layout.{Layout, field_of, root_at}
-use Rattle.vdb_tree.specs.Parts.{IsPartOfLeaf, IsSkipped, Passes, TreeWalk, YieldsBox, is_left}
-use Rattle.vdb_tree.specs.ConstantBlocks.{cell_eq, is_uniform}
-use Rattle.vdb_tree.specs.declared.queries.parts.Skip.{Skip}
-use Rattle.vdb_tree.specs.declared.queries.parts.Skip.TheVariants.{Absent, Background}
+use Rattle.vdb_coord.proofs.Walk.{none_before}
+use Rattle.vdb_node.specs.Leaf.{Leaf as LeafOf}
+use Rattle.vdb_tree.specs.ConstantBlocks.{cell_eq}
+use Rattle.vdb_tree.specs.declared.queries.parts.Skip.TheVariants.{Absent}
 use Rattle.vdb_tree.proofs.PartWalks.{absent_skipped}
-use Rattle.vdb_tree.proofs.Uniform.{cell_exact, cell_itself, uniform_cells, uniform_from}
-use Rattle.vdb_value.specs.declared.Cell.{Cell}
+use Rattle.vdb_tree.proofs.Uniform.{cell_itself}
 use Rattle.vdb_walk.specs.internal.PartCells.{IsCellAt, IsCellOrSkipped, IsInEachRoot}
 
 false_true : {b : Bool} → b ≡ false → b ≡ true → ⊥

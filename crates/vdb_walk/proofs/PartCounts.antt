@@ -1,25 +1,5 @@
 -- Counts active voxels part by part.
-use Rattle.std.proofs.Common.{◌≡◌, sym, ap, ◌∙◌, refl, subst, ℕ, ◌+◌, ◌^◌, ◌≤◌, Bool, true, false, not, ◌&&◌, List, [], length, arith}
-use Rattle.std.specs.Prelude.{Option, Some, None}
-use Rattle.std.specs.List.{IsDistinct, count_by, filter}
-use Rattle.std.specs.Set.{is_member}
-use Rattle.std.proofs.lemmas.List.Filters.{length-filter_both}
-use Rattle.std.proofs.lemmas.List.Sums.{length-filter}
-use Rattle.std.proofs.lemmas.Map.Made.{is_member-filter, length-from_same_keys}
-use Rattle.vdb_coord.specs.Boxes.{is_bounds}
-use Rattle.vdb_coord.specs.Space.{Box, coord_eq, coordinates, is_inside}
-use Rattle.vdb_coord.specs.declared.Bits.{Bits}
-use Rattle.vdb_coord.specs.declared.Coord.{Coord}
-use Rattle.vdb_coord.proofs.BlockOrder.{not_before_min}
-use Rattle.vdb_coord.proofs.CountBounds.{member_passing}
-use Rattle.vdb_coord.proofs.Counts.{count_by_members, distinct_filter}
-use Rattle.vdb_coord.proofs.Distinct.{distinct_coordinates}
-use Rattle.vdb_coord.proofs.Members.{coord_equiv, coord_exact}
-use Rattle.vdb_tree.specs.Layout.{Layout, field_of}
-use Rattle.vdb_tree.specs.Parts.{Passes, TreeWalk, YieldsBox, IsSkipped, is_left}
-use Rattle.vdb_tree.specs.ConstantBlocks.{count}
-use Rattle.vdb_tree.specs.declared.queries.parts.Skip.{Skip}
-use Rattle.vdb_tree.specs.declared.queries.parts.Skip.TheVariants.{Inactive}
+use Rattle.vdb_walk.proofs.Common.{◌≡◌, sym, ap, ◌∙◌, refl, subst, ℕ, ◌+◌, ◌^◌, ◌≤◌, Bool, true, false, not, ◌&&◌, List, [], length, arith, Option, Some, None, IsDistinct, count_by, filter, is_member, length-filter_both, length-filter, is_member-filter, length-from_same_keys, is_bounds, Box, coord_eq, coordinates, is_inside, Bits, Coord, not_before_min, member_passing, count_by_members, distinct_filter, distinct_coordinates, coord_equiv, coord_exact, Layout, field_of, Passes, TreeWalk, YieldsBox, IsSkipped, is_left, count, Skip, Inactive}
 use Rattle.vdb_walk.proofs.Counts.{count_few, none_on, nothing_apart, volume_few}
 
 -- ---- any test

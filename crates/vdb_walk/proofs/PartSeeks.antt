@@ -1,34 +1,13 @@
 -- The first active voxel of a part, and of what is left of a walk over parts.
-use Rattle.std.proofs.Common.{◌≡◌, inl, inr, sym, ap, ◌∙◌, refl, subst, Bool, true, false, IsTrue}
+use Rattle.vdb_walk.proofs.Common.{◌≡◌, inl, inr, sym, ap, ◌∙◌, refl, subst, Bool, true, false, IsTrue, not, Option, Some, None, IfSome, is_some, option_map, is_lt, block_cmp, block_number, offset, ComesBefore, is_bounds, Box, everywhere, is_box, is_inside, is_within, Bits, Coord, Leaf, not_before_min, not_both, both, within_each, min_inside, cell_in, bool_cases, Field, off, Layout, field_of, IsPartOfLeaf, IsSkipped, IsWalk, Passes, TreeWalk, YieldsBox, is_left, IsLeafAround, Skip, Inactive, Cell, IsActivePast, IsFirst, IsInLeafBlock, IsOnPast, IsPastLast, IsListing, Held}
 use Rattle.std.specs.Borrow.{Bor}
-use Rattle.std.specs.Prelude.{not, Option, Some, None, IfNone, IfSome, is_some, option_map}
-use Rattle.std.specs.Ordering.{is_lt}
-use Rattle.vdb_coord.specs.Blocks.{block_cmp, block_number, offset}
-use Rattle.vdb_coord.specs.Order.{ComesBefore}
-use Rattle.vdb_coord.specs.Boxes.{is_bounds}
-use Rattle.vdb_coord.specs.Space.{Box, everywhere, is_box, is_inside, is_within}
-use Rattle.vdb_coord.specs.declared.Bits.{Bits}
-use Rattle.vdb_coord.specs.declared.Coord.{Coord}
-use Rattle.vdb_coord.specs.declared.Level.TheVariants.{Leaf}
-use Rattle.vdb_coord.proofs.BlockOrder.{not_before_min, not_both}
-use Rattle.vdb_coord.proofs.Boxes.{both}
-use Rattle.vdb_coord.proofs.Meeting.{within_each}
-use Rattle.vdb_coord.proofs.Walk.{min_inside}
-use Rattle.vdb_node.specs.Leaf.{cell_in, Leaf as LeafOf}
-use Rattle.vdb_tree.proofs.Levels.{bool_cases}
-use Rattle.vdb_tree.specs.Field.{Field, off}
-use Rattle.vdb_tree.specs.Layout.{Layout, field_of}
-use Rattle.vdb_tree.specs.Parts.{OnLeaf, OnTile, IsPartOfLeaf, IsSkipped, IsWalk, Passes, TreeWalk, YieldsBox, is_left}
-use Rattle.vdb_tree.specs.Leaves.{IsLeafAround}
+use Rattle.std.specs.Prelude.{IfNone}
+use Rattle.vdb_node.specs.Leaf.{Leaf as LeafOf}
+use Rattle.vdb_tree.specs.Parts.{OnLeaf, OnTile}
 use Rattle.vdb_tree.specs.declared.queries.parts.Content.{Content}
 use Rattle.vdb_tree.specs.declared.queries.parts.Content.TheVariants.{Leaf as LeafContent, Tile as TileContent}
 use Rattle.vdb_tree.specs.declared.queries.parts.Part.{Part}
-use Rattle.vdb_tree.specs.declared.queries.parts.Skip.{Skip}
-use Rattle.vdb_tree.specs.declared.queries.parts.Skip.TheVariants.{Inactive}
-use Rattle.vdb_value.specs.declared.Cell.{Cell}
-use Rattle.vdb_walk.specs.internal.Firsts.{IsActivePast, IsFirst, IsInLeafBlock, IsOnPast, IsPastLast}
-use Rattle.vdb_walk.specs.internal.Listings.{HasCells, IsHeld, IsListing, tile_of}
-use Rattle.vdb_walk.specs.declared.held.Held.{Held}
+use Rattle.vdb_walk.specs.internal.Listings.{HasCells, IsHeld, tile_of}
 use Rattle.vdb_walk.proofs.Firsts.{comes_on, first_same, past_after}
 
 false_true : false ≡ true → ⊥

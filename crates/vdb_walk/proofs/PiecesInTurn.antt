@@ -1,33 +1,19 @@
 -- The pieces of a tree in block order.
-use Rattle.std.proofs.Common.{◌≡◌, ◌⊎◌, inl, inr, sym, ap, ◌∙◌, refl, subst, ℕ, ℤ, ◌<◌, int_le, true, false, arith, IsTrue}
-use Rattle.std.specs.Prelude.{Option, Some, None, IsSome, IfSome}
-use Rattle.std.specs.Ordering.{is_gt, is_lt}
-use Rattle.std.specs.declared.cmp.Ordering.{Ordering}
-use Rattle.std.specs.declared.cmp.Ordering.TheVariants.{Less, Equal, Greater}
-use Rattle.vdb_coord.specs.Blocks.{block, block_around, block_cmp, block_number, block_numbers, is_past, key, offset}
-use Rattle.std.proofs.lemmas.Int.{ints}
-use Rattle.vdb_coord.specs.Boxes.{is_bounds}
-use Rattle.vdb_coord.specs.Entries.{AreBits}
-use Rattle.vdb_coord.specs.Space.{Box, coord_cmp, everywhere, is_box, is_inside, is_within}
-use Rattle.vdb_coord.specs.declared.Bits.{Bits}
-use Rattle.vdb_coord.specs.declared.Coord.{Coord}
-use Rattle.vdb_coord.specs.declared.Level.{Level}
-use Rattle.vdb_coord.specs.declared.Level.TheVariants.{Leaf, Lower, Upper}
-use Rattle.vdb_coord.proofs.Boxes.{and_true, both, three, together as three_together}
-use Rattle.vdb_coord.proofs.InRange.{block_in_range, corner_in_range, number_of_corner}
-use Rattle.vdb_coord.proofs.Nesting.{inside_around, inside_numbered, leaf_from_lower, lower_from_leaf, lower_from_upper, number_in_block, offset_from_entry, upper_from_lower}
-use Rattle.vdb_node.specs.declared.Entry.{Entry}
-use Rattle.vdb_node.specs.declared.Entry.TheVariants.{Child, Tile}
-use Rattle.vdb_tree.specs.Layout.{Layout, field_of, lower_entry, root_at, root_entry, upper_entry}
+use Rattle.vdb_walk.proofs.Common.{◌≡◌, ◌⊎◌, inl, inr, sym, ap, ◌∙◌, refl, subst, ℕ, ℤ, ◌<◌, int_le, true, false, arith, IsTrue, Option, Some, None, IfSome, is_lt, Ordering, Less, Equal, Greater, block, block_around, block_cmp, block_number, block_numbers, is_past, key, offset, ints, is_bounds, AreBits, Box, coord_cmp, everywhere, is_box, is_inside, is_within, Bits, Coord, Level, Leaf, Lower, Upper, and_true, both, three, corner_in_range, number_of_corner, inside_around, inside_numbered, lower_from_leaf, number_in_block, offset_from_entry, upper_from_lower, Entry, Child, Tile, Layout, field_of, lower_entry, root_at, from_key, from_lower, from_upper, precedes, bool_cases, IsEnteredPast, IsFirst, IsPastLast, IsNextPiece, Passage}
+use Rattle.std.specs.Prelude.{IsSome}
+use Rattle.std.specs.Ordering.{is_gt}
+use Rattle.vdb_coord.proofs.Boxes.{together as three_together}
+use Rattle.vdb_coord.proofs.InRange.{block_in_range}
+use Rattle.vdb_coord.proofs.Nesting.{leaf_from_lower, lower_from_upper}
+use Rattle.vdb_tree.specs.Layout.{root_entry, upper_entry}
 use Rattle.vdb_tree.specs.Pieces.{box_of_entry, piece_around}
 use Rattle.vdb_tree.specs.Table.{IsNextKey, IsPast}
-use Rattle.vdb_coord.proofs.BlockOrder.{from_key, from_lower, from_upper, key_equal, Precedes, precedes}
+use Rattle.vdb_coord.proofs.BlockOrder.{key_equal, Precedes}
 use Rattle.vdb_tree.proofs.Descents.{lower_by_block, root_by_block, upper_by_block}
-use Rattle.vdb_tree.proofs.Levels.{bool_cases}
 use Rattle.vdb_tree.proofs.PieceCells.{only_self}
 use Rattle.vdb_tree.specs.declared.queries.pieces.Piece.{Piece}
-use Rattle.vdb_walk.specs.internal.Firsts.{EndsPiece, IsEntered, IsEnteredPast, IsFirst, IsPastLast}
-use Rattle.vdb_walk.specs.Passing.{IsAhead, IsNextPiece, Passage}
+use Rattle.vdb_walk.specs.internal.Firsts.{EndsPiece, IsEntered}
+use Rattle.vdb_walk.specs.Passing.{IsAhead}
 use Rattle.vdb_walk.proofs.BoxOrder.{between_x, between_y, between_z}
 use Rattle.vdb_walk.proofs.Firsts.{first_or_same, first_same, never_back, never_before_min, never_past_max}
 use Rattle.vdb_walk.proofs.Keys.{IsUpTo}

@@ -1,21 +1,6 @@
 -- The coordinate at which a walk's next part begins: a walk may not skip from there on.
-use Rattle.std.proofs.Common.{◌≡◌, inl, inr, sym, ap, ◌∙◌, refl, subst, true, false, not, IsTrue}
-use Rattle.std.specs.Prelude.{Option, Some, None}
-use Rattle.std.specs.Ordering.{is_lt}
-use Rattle.vdb_coord.specs.Blocks.{block_cmp}
-use Rattle.vdb_coord.specs.Boxes.{is_bounds}
-use Rattle.vdb_coord.specs.Order.{ComesBefore}
-use Rattle.vdb_coord.specs.Space.{Box, everywhere, is_box, is_inside, is_within}
-use Rattle.vdb_coord.specs.declared.Bits.{Bits}
-use Rattle.vdb_coord.specs.declared.Coord.{Coord}
-use Rattle.vdb_coord.proofs.BlockOrder.{comes_on, not_before_min, not_itself}
-use Rattle.vdb_coord.proofs.Boxes.{both, not_true}
-use Rattle.vdb_coord.proofs.Walk.{min_inside}
-use Rattle.vdb_tree.specs.Layout.{Layout}
-use Rattle.vdb_tree.specs.Parts.{IsSkipped, TreeWalk, YieldsBox, is_left}
-use Rattle.vdb_tree.specs.declared.queries.parts.Skip.{Skip}
-use Rattle.vdb_tree.proofs.PartStarts.{gone_before}
-use Rattle.vdb_walk.specs.internal.BlocksFrom.{IsPartStart, IsSkippedTo}
+use Rattle.vdb_walk.proofs.Common.{◌≡◌, inl, inr, sym, ap, ◌∙◌, refl, subst, true, false, not, IsTrue, Option, Some, None, is_lt, block_cmp, is_bounds, ComesBefore, Box, everywhere, is_box, is_inside, is_within, Bits, Coord, comes_on, not_before_min, not_itself, both, not_true, min_inside, Layout, IsSkipped, TreeWalk, YieldsBox, is_left, Skip, gone_before, IsSkippedTo}
+use Rattle.vdb_walk.specs.internal.BlocksFrom.{IsPartStart}
 use Rattle.vdb_walk.proofs.NonConstantBlocks.{from_on, left_from, true_or_false}
 
 -- what comes before a coordinate that isn't left isn't left either

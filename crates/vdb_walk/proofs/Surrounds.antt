@@ -1,29 +1,12 @@
 -- Bounding boxes: of two boxes, and found part by part.
-use Rattle.std.proofs.Common.{◌≡◌, ◌⊎◌, sym, ap, ◌∙◌, refl, subst, ℕ, ◌+◌, ◌<◌, ◌≤◌, ℤ, ◌-ℤ◌, unsigned_abs, Bool, true, false, not, ◌&&◌, ◌||◌, inl, inr, int_le, List, Option, Some, None, arith, IsTrue}
-use Rattle.std.specs.Int.{int_max, int_min}
-use Rattle.std.specs.Ordering.{is_lt}
-use Rattle.std.specs.Prelude.{IfSome, if◌then◌else◌}
-use Rattle.std.proofs.lemmas.Int.{ints}
-use Rattle.vdb_coord.specs.Blocks.{block_cmp, offset}
+use Rattle.vdb_walk.proofs.Common.{◌≡◌, ◌⊎◌, sym, ap, ◌∙◌, refl, subst, ℕ, ◌+◌, ◌<◌, ◌≤◌, ℤ, ◌-ℤ◌, unsigned_abs, Bool, true, false, not, ◌&&◌, ◌||◌, inl, inr, int_le, List, Option, Some, None, arith, IsTrue, int_min, is_lt, IfSome, ints, block_cmp, offset, ComesBefore, Box, coord, everywhere, is_between, is_box, is_inside, Bits, Coord, Leaf, not_before_min, and_true, both, three, together, Field, off, Layout, field_of, IsSkipped, Passes, TreeWalk, YieldsBox, is_left, Skip, Inactive, bool_cases, or_cases, or_first, or_second, Cell, is_set, IsInFirstBlock, IsNextSet, IsNextSetAt, IsFoundTo}
+use Rattle.std.specs.Int.{int_max}
+use Rattle.std.specs.Prelude.{if◌then◌else◌}
 use Rattle.vdb_coord.specs.Boxes.{box_of}
-use Rattle.vdb_coord.specs.Order.{ComesBefore}
-use Rattle.vdb_coord.specs.Space.{Box, coord, everywhere, is_between, is_box, is_inside}
-use Rattle.vdb_coord.specs.declared.Bits.{Bits}
-use Rattle.vdb_coord.specs.declared.Coord.{Coord}
-use Rattle.vdb_coord.specs.declared.Level.TheVariants.{Leaf}
-use Rattle.vdb_coord.proofs.BlockOrder.{not_before_min}
-use Rattle.vdb_coord.proofs.Boxes.{and_true, both, box_of_none, box_of_some, three, together}
-use Rattle.vdb_tree.specs.Field.{Field, off}
-use Rattle.vdb_tree.specs.Layout.{Layout, cell_at, field_of}
-use Rattle.vdb_tree.specs.Parts.{IsSkipped, Passes, TreeWalk, YieldsBox, is_left}
-use Rattle.vdb_tree.specs.declared.queries.parts.Skip.{Skip}
-use Rattle.vdb_tree.specs.declared.queries.parts.Skip.TheVariants.{Inactive}
-use Rattle.vdb_tree.proofs.Levels.{bool_cases}
-use Rattle.vdb_tree.proofs.Rooted.{or_cases, or_first, or_second}
-use Rattle.vdb_value.specs.declared.Cell.{Cell}
-use Rattle.vdb_walk.specs.internal.Voxels.{is_set, IsInFirstBlock, IsNextSet, IsNextSetAt}
+use Rattle.vdb_coord.proofs.Boxes.{box_of_none, box_of_some}
+use Rattle.vdb_tree.specs.Layout.{cell_at}
 use Rattle.vdb_walk.specs.Reports.{IsActiveBounds}
-use Rattle.vdb_walk.specs.internal.Surround.{IsFoundBetween, IsFoundTo, Surrounds, is_in, is_wanted, is_wanted_by}
+use Rattle.vdb_walk.specs.internal.Surround.{IsFoundBetween, Surrounds, is_in, is_wanted, is_wanted_by}
 use Rattle.vdb_walk.proofs.SkippedParts.{earlier_gone}
 use Rattle.vdb_walk.proofs.VoxelRows.{run_inside}
 

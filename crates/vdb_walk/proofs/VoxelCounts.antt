@@ -1,28 +1,10 @@
 -- Counts the voxels of a leaf in a box by the states of the leaf.
-use Rattle.std.proofs.Common.{◌≡◌, inl, inr, refl, zero, suc, pos, ◌+ℤ◌, ◌-ℤ◌, unsigned_abs, sym, ap, ◌∙◌, subst, ℕ, ◌+◌, ◌<◌, ◌≤◌, Bool, true, false, not, ◌&&◌, ◌||◌, List, [], ◌∷◌, arith, nat_lt}
-use Rattle.std.specs.Prelude.{None}
-use Rattle.std.specs.Int.{int_min}
-use Rattle.std.specs.List.{IsDistinct, count_by}
+use Rattle.vdb_walk.proofs.Common.{◌≡◌, inl, inr, refl, suc, pos, ◌+ℤ◌, ◌-ℤ◌, unsigned_abs, sym, ap, ◌∙◌, subst, ℕ, ◌+◌, ◌<◌, ◌≤◌, Bool, true, false, not, ◌&&◌, ◌||◌, List, [], ◌∷◌, arith, None, int_min, count_by, block_around, block_number, entries, offset, is_bounds, AreBits, Box, coord, coord_eq, coordinates, everywhere, is_box, is_inside, is_within, Bits, Coord, Leaf, both, within_each, coord_equiv, coord_exact, inside_numbered, is_on, on_count, Field, IsPartOfLeaf, count, Cell, is_set, IsInFirstBlock, IsNextSet, IsNextSetAt, set_count}
+use Rattle.std.proofs.Common.{zero, nat_lt}
+use Rattle.std.specs.List.{IsDistinct}
 use Rattle.std.proofs.lemmas.Bool.Decides.{nat_tests}
-use Rattle.vdb_coord.specs.Blocks.{block_around, block_number, entries, offset}
-use Rattle.vdb_coord.specs.Boxes.{is_bounds}
-use Rattle.vdb_coord.specs.Entries.{AreBits}
-use Rattle.vdb_coord.specs.Space.{Box, coord, coord_eq, coordinates, everywhere, is_box, is_inside, is_within}
-use Rattle.vdb_coord.specs.declared.Bits.{Bits}
-use Rattle.vdb_coord.specs.declared.Coord.{Coord}
-use Rattle.vdb_coord.specs.declared.Level.TheVariants.{Leaf}
-use Rattle.vdb_coord.proofs.Boxes.{both}
-use Rattle.vdb_coord.proofs.Meeting.{within_each}
-use Rattle.vdb_coord.proofs.Members.{coord_equiv, coord_exact}
-use Rattle.vdb_coord.proofs.Nesting.{inside_numbered}
-use Rattle.vdb_mask.specs.Mask.{is_on, on_count}
 use Rattle.vdb_node.specs.Leaf.{Leaf as LeafOf}
-use Rattle.vdb_tree.specs.Field.{Field}
-use Rattle.vdb_tree.specs.Parts.{IsPartOfLeaf}
-use Rattle.vdb_tree.specs.ConstantBlocks.{count}
 use Rattle.vdb_tree.proofs.LeafCounts.{leaf_counted}
-use Rattle.vdb_value.specs.declared.Cell.{Cell}
-use Rattle.vdb_walk.specs.internal.Voxels.{is_set, IsInFirstBlock, IsNextSet, IsNextSetAt, set_count}
 use Rattle.vdb_walk.proofs.Counts.{none_on, nothing_apart}
 use Rattle.vdb_walk.proofs.PartCounts.{count_alike, count_listed, count_split, first_way, other_way}
 use Rattle.vdb_walk.proofs.Surrounds.{min_inside}

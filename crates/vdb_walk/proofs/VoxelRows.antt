@@ -1,20 +1,11 @@
 -- The voxels of a leaf: their coordinates by entry, and the entries of voxels that follow one another along z.
-use Rattle.std.proofs.Common.{◌≡◌, ◌∙◌, sym, ap, subst, ℕ, ℤ, pos, ◌+◌, ◌-◌, ◌*◌, ◌/◌, ◌%◌, ◌<◌, ◌≤◌, ◌^◌, ◌+ℤ◌, ◌-ℤ◌, ◌≤ℤ◌, unsigned_abs, SFits, w32, true, arith}
-use Rattle.std.specs.Int.{int_min}
+use Rattle.vdb_walk.proofs.Common.{◌≡◌, ◌∙◌, sym, ap, subst, ℕ, ℤ, pos, ◌+◌, ◌-◌, ◌*◌, ◌<◌, ◌≤◌, ◌^◌, ◌+ℤ◌, ◌-ℤ◌, ◌≤ℤ◌, unsigned_abs, SFits, w32, true, arith, int_min, ints, pow_pos, block_around, offset, sub_block, digit, first_of, last_of, number_at, Box, coord, is_inside, Bits, Coord, Leaf, digit_is, number_zero, rest, rest_of, offset_is, inside_from, inside_parts, IsInFirstBlock}
+use Rattle.std.proofs.Common.{◌/◌, ◌%◌}
 use Rattle.std.proofs.Math.Nat.{div-div-eq-div-mul}
-use Rattle.std.proofs.lemmas.Int.{clamps, ints}
-use Rattle.std.proofs.lemmas.Nat.{pow_pos}
-use Rattle.vdb_coord.specs.Blocks.{block_around, offset, sub_block}
-use Rattle.vdb_coord.specs.Components.{digit, first_of, last_of, number_at}
-use Rattle.vdb_coord.specs.Space.{Box, coord, is_inside}
-use Rattle.vdb_coord.specs.declared.Bits.{Bits}
-use Rattle.vdb_coord.specs.declared.Coord.{Coord}
-use Rattle.vdb_coord.specs.declared.Level.TheVariants.{Leaf}
-use Rattle.vdb_coord.proofs.Digits.{between_fits, digit_is, first_fits, last_fits, number_zero}
-use Rattle.vdb_coord.proofs.Division.{parts, rest, rest_of}
-use Rattle.vdb_coord.proofs.Positions.{offset_is}
-use Rattle.vdb_coord.proofs.Walk.{inside_from, inside_parts, own_end}
-use Rattle.vdb_walk.specs.internal.Voxels.{IsInFirstBlock}
+use Rattle.std.proofs.lemmas.Int.{clamps}
+use Rattle.vdb_coord.proofs.Digits.{between_fits, first_fits, last_fits}
+use Rattle.vdb_coord.proofs.Division.{parts}
+use Rattle.vdb_coord.proofs.Walk.{own_end}
 use Rattle.vdb_walk.proofs.VoxelSeeks.{same_entry}
 
 -- ---- the voxel of an entry

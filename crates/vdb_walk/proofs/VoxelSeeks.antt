@@ -1,15 +1,6 @@
 -- The voxels of a leaf in a box, one after another.
-use Rattle.std.proofs.Common.{◌≡◌, ◌⊎◌, inl, inr, sym, ap, ◌∙◌, ℕ, ◌+◌, ◌<◌, ◌≤◌, Bool, true, false, List, arith}
-use Rattle.std.specs.Prelude.{Some}
-use Rattle.vdb_coord.specs.Blocks.{block_around, block_number, entries, offset, sub_block}
-use Rattle.vdb_coord.specs.Space.{Box, is_inside}
-use Rattle.vdb_coord.specs.declared.Bits.{Bits}
-use Rattle.vdb_coord.specs.declared.Coord.{Coord}
-use Rattle.vdb_coord.specs.declared.Level.TheVariants.{Leaf}
-use Rattle.vdb_coord.proofs.Nesting.{corner_of_entry, voxel_from_leaf}
-use Rattle.vdb_mask.specs.Mask.{IsNextAt, is_on}
-use Rattle.vdb_node.specs.Nodes.{IsOffFrom}
-use Rattle.vdb_walk.specs.internal.Voxels.{is_set, IsInFirstBlock, IsNextSet, IsNextSetAt}
+use Rattle.vdb_walk.proofs.Common.{◌≡◌, ◌⊎◌, inl, inr, sym, ap, ◌∙◌, ℕ, ◌+◌, ◌<◌, ◌≤◌, Bool, true, false, List, arith, Some, block_around, block_number, entries, offset, sub_block, Box, is_inside, Bits, Coord, Leaf, corner_of_entry, voxel_from_leaf, is_on, IsOffFrom, is_set, IsInFirstBlock, IsNextSet, IsNextSetAt}
+use Rattle.vdb_mask.specs.Mask.{IsNextAt}
 
 false_true : false ≡ true → ⊥
 false_true e = cc

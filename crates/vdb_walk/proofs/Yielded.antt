@@ -1,11 +1,7 @@
 -- The first voxel that a listing yields is the first of those left before.
-use Rattle.std.proofs.Common.{◌≡◌, inl, inr, sym, ap, ◌∙◌, refl, Bool, true, false, List, [], ◌∷◌}
-use Rattle.std.specs.Prelude.{Option, Some, None, filter}
-use Rattle.std.specs.List.{find}
-use Rattle.vdb_coord.specs.Blocks.{is_past}
-use Rattle.vdb_coord.specs.declared.Bits.{Bits}
-use Rattle.vdb_coord.specs.declared.Coord.{Coord}
-use Rattle.vdb_walk.specs.Reports.{Yields, Listed, past}
+use Rattle.vdb_walk.proofs.Common.{◌≡◌, inl, inr, sym, ap, ◌∙◌, refl, Bool, true, false, List, [], ◌∷◌, Option, Some, None, find, is_past, Bits, Coord, Listed, past}
+use Rattle.std.specs.Prelude.{filter}
+use Rattle.vdb_walk.specs.Reports.{Yields}
 
 module _ {X : Type 0} (test : X → Bool) where
   head_found : (xs : List X) (x : X) (rest : List X) → filter test xs ≡ x ∷ rest → find test xs ≡ Some x

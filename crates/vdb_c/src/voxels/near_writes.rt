@@ -34,36 +34,18 @@ pub(crate) fn set_near<const IN_LOWER: bool>(
     ensures written { IsTrue result → Writes (accessor_of number) at (option_map (write_of on) (value_of (grid_kind grid.old) given)) grid.old grid.new done }
     ensures untouched { result ≡ false → grid.new ≡ grid.old }
 {
-    let Some(accessor) = accessor(number) else {
+    let Some(by) = accessor(number) else {
         return false;
     };
     match grid {
         AnyGrid::Bool(held) => {
-            write_in_leaf_if::<_, IN_LOWER>(
-                held,
-                accessor,
-                at,
-                cell_write(Kind::Bool, given, on),
-                steps,
-            )
+            write_in_leaf_if::<_, IN_LOWER>(held, by, at, cell_write(Kind::Bool, given, on), steps)
         }
         AnyGrid::I32(held) => {
-            write_in_leaf_if::<_, IN_LOWER>(
-                held,
-                accessor,
-                at,
-                cell_write(Kind::I32, given, on),
-                steps,
-            )
+            write_in_leaf_if::<_, IN_LOWER>(held, by, at, cell_write(Kind::I32, given, on), steps)
         }
         AnyGrid::I64(held) => {
-            write_in_leaf_if::<_, IN_LOWER>(
-                held,
-                accessor,
-                at,
-                cell_write(Kind::I64, given, on),
-                steps,
-            )
+            write_in_leaf_if::<_, IN_LOWER>(held, by, at, cell_write(Kind::I64, given, on), steps)
         }
     }
 }

@@ -20,7 +20,7 @@ ghost use Rattle.vdb_tree.specs.declared.refusal.TreeRefusal.TheVariants.{Memory
 
 use crate::{TreeOf, TreeRefusal};
 use vdb_coord::{Bounds, Coord, Level};
-use vdb_node::{Entry, Stored};
+use vdb_node::Stored;
 use vdb_pool::Steps;
 use vdb_value::Cell;
 
@@ -56,12 +56,8 @@ impl<
         ensures background_cell { cell ≡ background_cell self.old → IsOk result }
         ensures edges { (box : Box) → IsSplit (bits_of U L F) box (background_cell self.old) self.old → IsSplit (bits_of U L F) box (background_cell self.old) self.new }
     {
-        let background_cell = Cell {
-            value: self.background,
-            on: false,
-        };
         self.keeps_fills_to_limit(bounds);
-        if cell == background_cell {
+        if self.is_background(cell) {
             return Ok(());
         }
         self.make_capacity_for(bounds, steps)?;
@@ -179,13 +175,8 @@ impl<
         if self.root.get(self.key(p)).is_some() {
             return Ok(());
         }
-        match self.root_entry(p) {
-            Entry::Child(_) => Ok(()),
-            Entry::Tile(cell) => {
-                self.enter(p, cell)?;
-                Ok(())
-            }
-        }
+        self.enter(p, self.background_cell())?;
+        Ok(())
     }
 
     /// Does nothing. Its contract states a fact of every tree: a table with capacity for the box has capacity for each upper

@@ -13,7 +13,7 @@ ghost use Rattle.vdb_tree.specs.internal.StateRuns.{acts, AreSettled, AreStatesO
 use crate::TreeOf;
 use crate::nodes::held_place;
 use crate::pairs::StateRule;
-use crate::sweeps::prune::entry_corner;
+use crate::sweeps::entry_corner;
 use vdb_coord::{Coord, Level};
 use vdb_mask::Mask;
 use vdb_node::{Entry, Stored};

@@ -56,10 +56,7 @@ impl<
     {
         match self.root.get(self.key(p)) {
             Some(entry) => entry,
-            None => Entry::Tile(Cell {
-                value: self.background,
-                on: false,
-            }),
+            None => Entry::Tile(self.background_cell()),
         }
     }
 

@@ -1,6 +1,6 @@
 //! The parts of a tree in block order, one after another.
 
-ghost use Rattle.std.specs.Prelude.{◌≡◌, ◌+◌, ◌*◌, ◌<◌, ◌≤◌, if◌then◌else◌, is_some, IfNone, IfSome, IsNone, IsTrue, Some, None, false};
+ghost use Rattle.std.specs.Prelude.{◌↔◌, ◌≡◌, ◌+◌, ◌*◌, ◌<◌, ◌≤◌, if◌then◌else◌, is_some, IfNone, IfSome, IsNone, IsTrue, Some, None, false};
 ghost use Rattle.vdb_coord.specs.Blocks.{block_number, entries};
 ghost use Rattle.vdb_coord.specs.Order.{ComesBefore, coordinates_past};
 ghost use Rattle.vdb_coord.specs.Space.{everywhere, is_inside};
@@ -363,18 +363,8 @@ impl<
 
     /// Returns whether this is the cell of a voxel that was never written: the inactive background.
     pub(crate) fn is_background(&self, cell: Cell<V>) -> bool
-        ensures { IsTrue result → cell ≡ background_cell self.now }
+        ensures { IsTrue result ↔ (cell ≡ background_cell self.now) }
     {
         cell == self.background_cell()
-    }
-
-    /// Returns the cell of a voxel that was never written: the inactive background.
-    pub(crate) fn background_cell(&self) -> Cell<V>
-        ensures { result ≡ background_cell self.now }
-    {
-        Cell {
-            value: self.background,
-            on: false,
-        }
     }
 }

@@ -11,7 +11,7 @@ ghost use Rattle.vdb_tree.specs.Unlike.{IsNextUnlike};
 
 use crate::TreeOf;
 use crate::nodes::held_place;
-use crate::sweeps::prune::entry_corner;
+use crate::sweeps::entry_corner;
 use vdb_coord::{Coord, Level};
 use vdb_node::{Entry, Stored};
 use vdb_pool::Steps;
@@ -32,10 +32,7 @@ impl<
     pub fn root_blocks(&self, steps: &mut Steps) -> u64
         ensures { result ≡ roots V.eq (bits_of U L F) (field_of (bits_of U L F) self.now) }
     {
-        let background_cell = Cell {
-            value: self.background,
-            on: false,
-        };
+        let background_cell = self.background_cell();
         let _limit = self.limit; // the count keeps to the limit
         let mut count: u64 = 0;
         let mut passed = None;

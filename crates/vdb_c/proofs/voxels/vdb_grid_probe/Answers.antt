@@ -1,5 +1,4 @@
-use Rattle.std.proofs.Common.{rules}
-use Rattle.vdb_scene.specs.Grids.{HasSameTree}
+use Rattle.vdb_c.proofs.Common.{rules, HasSameTree}
 use Rattle.vdb_c.proofs.SameTrees.{same_tree}
 use Rattle.vdb_c.proofs.voxels.vdb_grid_probe.Goals as goal
 

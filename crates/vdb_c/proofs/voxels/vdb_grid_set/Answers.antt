@@ -1,11 +1,4 @@
-use Rattle.std.proofs.Common.{◌∙◌, ap, rules, subst, w32, w64, SFits, Some}
-use Rattle.std.specs.Prelude.{⊤, Option}
-use Rattle.std.specs.Option.{option_map}
-use Rattle.std.proofs.lemmas.Int.{to_z-of_z}
-use Rattle.vdb_coord.specs.Space.{coord}
-use Rattle.vdb_scene.specs.declared.any_grid.AnyGrid.{AnyGrid}
-use Rattle.vdb_c.specs.Calls.{OnHeld, Writes, grid_kind, write_of}
-use Rattle.vdb_c.specs.Values.{accessor_of, is_on, value_of}
+use Rattle.vdb_c.proofs.Common.{◌∙◌, ap, rules, subst, w32, w64, SFits, Some, ⊤, Option, option_map, to_z-of_z, coord, AnyGrid, OnHeld, Writes, grid_kind, write_of, accessor_of, is_on, value_of}
 use Rattle.vdb_c.proofs.voxels.vdb_grid_set.Goals as goal
 
 pub returns : goal.returns

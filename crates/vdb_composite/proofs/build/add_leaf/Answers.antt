@@ -1,7 +1,4 @@
-use Rattle.vdb_coord.specs.Blocks.{vdb}
-use Rattle.vdb_tree.specs.Field.{Field}
-use Rattle.vdb_tree.specs.Layout.{field_of}
-use Rattle.vdb_value.specs.Blends.{blended}
+use Rattle.vdb_composite.proofs.Common.{vdb, Field, field_of, blended}
 use Rattle.vdb_composite.proofs.MixLeaves.{leaf_adds}
 use Rattle.vdb_composite.proofs.build.add_leaf.Goals as goal
 

@@ -1,10 +1,5 @@
-use Rattle.std.proofs.Common.{rules, ◌∙◌, refl}
-use Rattle.vdb_coord.specs.Blocks.{vdb}
-use Rattle.vdb_tree.specs.Field.{Field}
-use Rattle.vdb_tree.specs.Layout.{field_of}
-use Rattle.vdb_value.specs.Blends.{blended}
+use Rattle.vdb_composite.proofs.Common.{rules, ◌∙◌, refl, vdb, Field, field_of, blended, internal_small, leaf_small}
 use Rattle.vdb_composite.proofs.MixWalks.{built_end, built_next, built_start}
-use Rattle.vdb_tree.proofs.Sizes.{internal_small, leaf_small}
 use Rattle.vdb_composite.proofs.TreeSizes.{tree_small}
 use Rattle.vdb_composite.proofs.build.add_pairs.Goals as goal
 

@@ -1,9 +1,4 @@
-use Rattle.std.proofs.Common.{◌≡◌}
-use Rattle.vdb_coord.specs.Blocks.{vdb}
-use Rattle.vdb_tree.specs.Layout.{field_of}
-use Rattle.vdb_tree.specs.Pairs.{IsPairWalk}
-use Rattle.vdb_tree.specs.Parts.{left_count}
-use Rattle.vdb_value.specs.Blends.{blended}
+use Rattle.vdb_composite.proofs.Common.{◌≡◌, vdb, field_of, IsPairWalk, left_count, blended}
 use Rattle.vdb_composite.proofs.MixWalks.{IsBuilt}
 use Rattle.vdb_composite.proofs.build.add_pairs.Given as goal
 

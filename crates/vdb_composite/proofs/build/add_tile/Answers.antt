@@ -1,8 +1,4 @@
-use Rattle.std.proofs.Common.{◌∙◌, ap, sym}
-use Rattle.vdb_coord.specs.Blocks.{vdb}
-use Rattle.vdb_tree.specs.Field.{Field, fill}
-use Rattle.vdb_tree.specs.Layout.{field_of}
-use Rattle.vdb_value.specs.Blends.{blended}
+use Rattle.vdb_composite.proofs.Common.{◌∙◌, ap, sym, vdb, Field, fill, field_of, blended}
 use Rattle.vdb_composite.proofs.MixLeaves.{tile_adds}
 use Rattle.vdb_composite.proofs.build.add_tile.Goals as goal
 

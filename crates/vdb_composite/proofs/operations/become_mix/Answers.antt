@@ -1,9 +1,4 @@
-use Rattle.std.proofs.Common.{◌≤◌, ◌∙◌, subst, rules, ℕ}
-use Rattle.vdb_coord.specs.Blocks.{vdb}
-use Rattle.vdb_tree.specs.ConstantBlocks.{roots}
-use Rattle.vdb_tree.specs.Field.{Field}
-use Rattle.vdb_tree.specs.Layout.{field_of}
-use Rattle.vdb_value.specs.Blends.{blended}
+use Rattle.vdb_composite.proofs.Common.{◌≤◌, ◌∙◌, subst, rules, ℕ, vdb, roots, Field, field_of, blended}
 use Rattle.vdb_composite.proofs.MixWalks.{is_made}
 use Rattle.vdb_composite.proofs.operations.become_mix.Goals as goal
 

@@ -1,17 +1,7 @@
-use Rattle.std.proofs.Common.{◌≡◌, ◌+◌, ◌≤◌, ◌<◌, ◌∙◌, ap, arith, sym, subst, rules}
-use Rattle.std.specs.Prelude.{Some}
-use Rattle.vdb_coord.specs.Blocks.{key, vdb}
-use Rattle.vdb_coord.specs.declared.Bits.{Bits}
-use Rattle.vdb_coord.specs.declared.Coord.{Coord}
-use Rattle.vdb_tree.specs.Field.{Field}
-use Rattle.vdb_tree.specs.Layout.{field_of}
-use Rattle.vdb_value.specs.Blends.{blended}
-use Rattle.vdb_composite.specs.Mixes.{mixed}
+use Rattle.vdb_composite.proofs.Common.{◌≡◌, ◌+◌, ◌≤◌, ◌<◌, ◌∙◌, ap, arith, sym, subst, rules, Some, key, vdb, Bits, Coord, Field, field_of, blended, mixed, exact_by, internal_small, leaf_small}
 use Rattle.vdb_composite.proofs.MixLeaves.{bounds_corner}
 use Rattle.vdb_composite.proofs.MixRoots.{HasFound, found_again, found_all, found_flat, found_many, found_more, found_start}
 use Rattle.vdb_composite.proofs.Mixed.{mixed_flat, mixed_off, mixed_unlike}
-use Rattle.vdb_tree.proofs.Uniform.{exact_by}
-use Rattle.vdb_tree.proofs.Sizes.{internal_small, leaf_small}
 use Rattle.vdb_composite.proofs.TreeSizes.{tree_small}
 use Rattle.vdb_composite.proofs.root_limit.exceeds.Goals as goal
 

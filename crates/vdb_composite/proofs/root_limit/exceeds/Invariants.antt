@@ -1,10 +1,4 @@
-use Rattle.std.proofs.Common.{◌≤◌}
-use Rattle.vdb_coord.specs.Blocks.{vdb}
-use Rattle.vdb_tree.specs.Layout.{field_of}
-use Rattle.vdb_tree.specs.Pairs.{IsPairWalk}
-use Rattle.vdb_tree.specs.Parts.{left_count}
-use Rattle.vdb_value.specs.Blends.{blended}
-use Rattle.vdb_composite.specs.Mixes.{mixed}
+use Rattle.vdb_composite.proofs.Common.{◌≤◌, vdb, field_of, IsPairWalk, left_count, blended, mixed}
 use Rattle.vdb_composite.proofs.MixRoots.{HasFound}
 use Rattle.vdb_composite.proofs.root_limit.exceeds.Given as goal
 

@@ -1,16 +1,5 @@
-use Rattle.std.proofs.Common.{◌≡◌, ◌∙◌, ◌-◌, ap, arith, sym}
-use Rattle.std.specs.Prelude.{Some}
-use Rattle.vdb_coord.specs.Blocks.{entries, offset, vdb}
-use Rattle.vdb_coord.specs.declared.Bits.{Bits}
-use Rattle.vdb_coord.specs.declared.Level.TheVariants.{Leaf}
-use Rattle.vdb_node.specs.Leaf.{cell_in}
-use Rattle.vdb_value.specs.declared.Cell.{Cell}
-use Rattle.vdb_tree.specs.Field.{Field, off}
-use Rattle.vdb_tree.specs.Layout.{field_of}
-use Rattle.vdb_value.specs.Blends.{blended}
-use Rattle.vdb_tree.proofs.Constants.{entries_some, last_ends, last_within}
+use Rattle.vdb_composite.proofs.Common.{◌≡◌, ◌∙◌, ◌-◌, ap, arith, sym, Some, entries, offset, vdb, Bits, Leaf, cell_in, Cell, Field, off, field_of, blended, entries_some, last_ends, last_within, leaf_small}
 use Rattle.vdb_composite.proofs.MixLeaves.{blended_cell, offset_small, whole_leaf}
-use Rattle.vdb_tree.proofs.Sizes.{leaf_small}
 use Rattle.vdb_composite.proofs.scratch.mix_leaf.Goals as goal
 
 pub entry-requires : goal.entry-requires

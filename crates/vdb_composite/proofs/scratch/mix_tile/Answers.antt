@@ -1,12 +1,5 @@
-use Rattle.std.proofs.Common.{◌≡◌, ◌∙◌, ap, arith}
-use Rattle.vdb_coord.specs.Blocks.{entries, offset, vdb}
-use Rattle.vdb_coord.specs.declared.Bits.{Bits}
-use Rattle.vdb_coord.specs.declared.Level.TheVariants.{Leaf}
-use Rattle.vdb_coord.proofs.Positions.{entries_is, offset_below}
-use Rattle.vdb_node.specs.Leaf.{cell_in}
-use Rattle.vdb_value.specs.Blends.{blended}
+use Rattle.vdb_composite.proofs.Common.{◌≡◌, ◌∙◌, ap, arith, entries, offset, vdb, Bits, Leaf, entries_is, offset_below, cell_in, blended, leaf_small}
 use Rattle.vdb_composite.proofs.MixLeaves.{blended_cell, offset_small, replaced_cell}
-use Rattle.vdb_tree.proofs.Sizes.{leaf_small}
 use Rattle.vdb_composite.proofs.scratch.mix_tile.Goals as goal
 
 pub blend_with-requires : goal.blend_with-requires

@@ -1,14 +1,6 @@
-use Rattle.std.proofs.Common.{◌≡◌, ◌∙◌, ◌-◌, ap, arith, sym}
-use Rattle.vdb_coord.specs.Blocks.{entries, offset, vdb}
-use Rattle.vdb_coord.specs.declared.Bits.{Bits}
-use Rattle.vdb_coord.specs.declared.Level.TheVariants.{Leaf}
-use Rattle.vdb_coord.proofs.Positions.{entries_is, offset_below}
-use Rattle.vdb_node.specs.Leaf.{cell_in, Leaf as LeafOf}
-use Rattle.vdb_tree.specs.Field.{Field, off}
-use Rattle.vdb_tree.specs.Layout.{field_of}
-use Rattle.vdb_tree.proofs.Constants.{entries_some, last_ends, last_within}
+use Rattle.vdb_composite.proofs.Common.{◌≡◌, ◌∙◌, ◌-◌, ap, arith, sym, entries, offset, vdb, Bits, Leaf, entries_is, offset_below, cell_in, Field, off, field_of, entries_some, last_ends, last_within, leaf_small}
+use Rattle.vdb_node.specs.Leaf.{Leaf as LeafOf}
 use Rattle.vdb_composite.proofs.MixLeaves.{whole_leaf}
-use Rattle.vdb_tree.proofs.Sizes.{leaf_small}
 use Rattle.vdb_composite.proofs.scratch.take_cells.Goals as goal
 
 pub fill_run-requires : goal.fill_run-requires

@@ -1,14 +1,6 @@
-use Rattle.std.proofs.Common.{rules}
-use Rattle.std.specs.Prelude.{IsSome}
-use Rattle.vdb_coord.specs.Blocks.{vdb}
-use Rattle.vdb_coord.specs.declared.Coord.{Coord}
-use Rattle.vdb_tree.specs.Field.{Field}
-use Rattle.vdb_tree.specs.Layout.{field_of}
-use Rattle.vdb_value.specs.Blends.{blended}
-use Rattle.vdb_composite.specs.Mixes.{mixed_cell}
+use Rattle.vdb_composite.proofs.Common.{rules, IsSome, vdb, Coord, Field, field_of, blended, mixed_cell, internal_small, leaf_small}
 use Rattle.vdb_composite.proofs.Mixed.{flat_some}
 use Rattle.vdb_composite.proofs.MixWalks.{passed_end, passed_next, passed_start}
-use Rattle.vdb_tree.proofs.Sizes.{internal_small, leaf_small}
 use Rattle.vdb_composite.proofs.TreeSizes.{tree_small}
 use Rattle.vdb_composite.proofs.search.lacks.Goals as goal
 

@@ -1,10 +1,4 @@
-use Rattle.std.specs.Prelude.{IsSome}
-use Rattle.vdb_coord.specs.Blocks.{vdb}
-use Rattle.vdb_tree.specs.Layout.{field_of}
-use Rattle.vdb_tree.specs.Pairs.{IsPairWalk}
-use Rattle.vdb_tree.specs.Parts.{left_count}
-use Rattle.vdb_value.specs.Blends.{blended}
-use Rattle.vdb_composite.specs.Mixes.{mixed_cell}
+use Rattle.vdb_composite.proofs.Common.{IsSome, vdb, field_of, IsPairWalk, left_count, blended, mixed_cell}
 use Rattle.vdb_composite.proofs.MixWalks.{IsPassed}
 use Rattle.vdb_composite.proofs.search.lacks.Given as goal
 

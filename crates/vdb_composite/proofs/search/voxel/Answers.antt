@@ -1,12 +1,4 @@
-use Rattle.std.proofs.Common.{◌<◌, ◌∙◌, ap, subst, sym, ℕ}
-use Rattle.vdb_coord.specs.Blocks.{node_bits, vdb}
-use Rattle.vdb_coord.specs.declared.Level.TheVariants.{Leaf}
-use Rattle.vdb_coord.proofs.Positions.{entries_is}
-use Rattle.vdb_node.specs.Leaf.{cell_in}
-use Rattle.vdb_node.specs.Nodes.{entry_count}
-use Rattle.vdb_tree.specs.Field.{Field, off}
-use Rattle.vdb_tree.specs.Layout.{field_of}
-use Rattle.vdb_tree.proofs.Sizes.{leaf_small}
+use Rattle.vdb_composite.proofs.Common.{◌<◌, ◌∙◌, ap, subst, sym, ℕ, node_bits, vdb, Leaf, entries_is, cell_in, entry_count, Field, off, field_of, leaf_small}
 use Rattle.vdb_composite.proofs.search.voxel.Goals as goal
 
 pub entry-requires : goal.entry-requires

@@ -1,10 +1,4 @@
-use Rattle.std.proofs.Common.{◌≡◌, ◌<◌, ◌≤◌, ◌∙◌, ℕ, ap, subst}
-use Rattle.vdb_coord.specs.Blocks.{entries, vdb}
-use Rattle.vdb_coord.specs.declared.Bits.{Bits}
-use Rattle.vdb_coord.specs.declared.Level.TheVariants.{Leaf}
-use Rattle.vdb_tree.specs.Field.{Field}
-use Rattle.vdb_tree.specs.Layout.{field_of}
-use Rattle.vdb_value.specs.Blends.{blended}
+use Rattle.vdb_composite.proofs.Common.{◌≡◌, ◌<◌, ◌≤◌, ◌∙◌, ℕ, ap, subst, entries, vdb, Bits, Leaf, Field, field_of, blended}
 use Rattle.vdb_composite.proofs.MixSearch.{meets_here, misses_all, misses_next, misses_none}
 use Rattle.vdb_composite.proofs.search.voxels_meet.Goals as goal
 

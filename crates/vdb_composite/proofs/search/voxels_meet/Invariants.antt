@@ -1,6 +1,4 @@
-use Rattle.vdb_coord.specs.Blocks.{vdb}
-use Rattle.vdb_tree.specs.Layout.{field_of}
-use Rattle.vdb_value.specs.Blends.{blended}
+use Rattle.vdb_composite.proofs.Common.{vdb, field_of, blended}
 use Rattle.vdb_composite.proofs.MixSearch.{MissesBelow}
 use Rattle.vdb_composite.proofs.search.voxels_meet.Given as goal
 

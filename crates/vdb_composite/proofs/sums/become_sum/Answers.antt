@@ -1,11 +1,5 @@
-use Rattle.std.proofs.Common.{◌≤◌, ◌∙◌, ℕ, subst}
-use Rattle.vdb_coord.specs.Blocks.{vdb}
-use Rattle.vdb_tree.specs.ConstantBlocks.{roots}
-use Rattle.vdb_tree.specs.Field.{Field}
-use Rattle.vdb_tree.specs.Layout.{field_of}
-use Rattle.vdb_value.specs.Blends.{blended}
+use Rattle.vdb_composite.proofs.Common.{◌≤◌, ◌∙◌, ℕ, subst, vdb, roots, Field, field_of, blended, Values}
 use Rattle.vdb_value.specs.declared.blend.Blend.TheVariants.{Sum}
-use Rattle.vdb_composite.specs.declared.mix.Mix.TheVariants.{Values}
 use Rattle.vdb_composite.proofs.Mixed.{has_mix}
 use Rattle.vdb_composite.proofs.MixSums.{lacks_none}
 use Rattle.vdb_composite.proofs.MixWalks.{is_made}

@@ -1,10 +1,5 @@
-use Rattle.std.proofs.Common.{◌≡◌, ◌∙◌, refl, sym, rules}
-use Rattle.std.specs.Prelude.{None}
-use Rattle.vdb_coord.specs.Blocks.{vdb}
-use Rattle.vdb_tree.specs.Field.{Field}
-use Rattle.vdb_tree.specs.Layout.{field_of}
+use Rattle.vdb_composite.proofs.Common.{◌≡◌, ◌∙◌, refl, sym, rules, None, vdb, Field, field_of, exact_by}
 use Rattle.vdb_composite.proofs.MixSums.{backgrounds_lack}
-use Rattle.vdb_tree.proofs.Uniform.{exact_by}
 use Rattle.vdb_composite.proofs.sums.sum.Goals as goal
 
 pub returns-in-None-clause-outcome : goal.returns-in-None-clause-outcome

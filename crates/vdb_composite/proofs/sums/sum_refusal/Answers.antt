@@ -1,7 +1,4 @@
-use Rattle.std.proofs.Common.{◌||◌, refl}
-use Rattle.vdb_coord.specs.Blocks.{vdb}
-use Rattle.vdb_tree.specs.Field.{Field}
-use Rattle.vdb_tree.specs.Layout.{field_of}
+use Rattle.vdb_composite.proofs.Common.{◌||◌, refl, vdb, Field, field_of}
 use Rattle.vdb_composite.proofs.Mixed.{cell_of}
 use Rattle.vdb_composite.proofs.MixSums.{lacks, lacks_none, none_from_map}
 use Rattle.vdb_composite.proofs.sums.sum_refusal.Goals as goal

@@ -1,6 +1,5 @@
 -- The number along each axis, which lies among those of the range.
-use Rattle.std.proofs.Common.{SFits, w32, rules, refl}
-use Rattle.std.proofs.lemmas.Int.{to_z-of_z}
+use Rattle.vdb_coord.proofs.Common.{SFits, w32, rules, refl, to_z-of_z}
 use Rattle.vdb_coord.proofs.Meeting.{fits_everywhere, number_within}
 use Rattle.vdb_coord.proofs.Coord.block_number_in.Goals as goal
 

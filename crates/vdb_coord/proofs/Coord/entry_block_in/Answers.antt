@@ -1,6 +1,5 @@
 -- The positions of an index make the corners of its entry.
-use Rattle.std.proofs.Common.{SFits, w32, rules, sym, ◌∙◌}
-use Rattle.std.proofs.lemmas.Int.{to_z-of_z}
+use Rattle.vdb_coord.proofs.Common.{SFits, w32, rules, sym, ◌∙◌, to_z-of_z}
 use Rattle.vdb_coord.proofs.Positions.{index_positions, sub_block_is}
 use Rattle.vdb_coord.proofs.Coord.entry_block_in.Goals as goal
 

@@ -1,6 +1,5 @@
 -- Each component is the lesser of two.
-use Rattle.std.proofs.Common.{SFits, w32, rules, refl}
-use Rattle.std.proofs.lemmas.Int.{to_z-of_z}
+use Rattle.vdb_coord.proofs.Common.{SFits, w32, rules, refl, to_z-of_z}
 use Rattle.vdb_coord.proofs.Coord.lesser.Goals as goal
 
 pub returns : goal.returns

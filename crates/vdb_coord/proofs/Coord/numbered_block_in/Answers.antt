@@ -1,6 +1,5 @@
 -- The ends of the block along each axis make its corners.
-use Rattle.std.proofs.Common.{SFits, w32, rules, refl, ◌∙◌}
-use Rattle.std.proofs.lemmas.Int.{to_z-of_z}
+use Rattle.vdb_coord.proofs.Common.{SFits, w32, rules, refl, ◌∙◌, to_z-of_z}
 use Rattle.vdb_coord.proofs.Coord.numbered_block_in.Goals as goal
 
 pub returns : goal.returns

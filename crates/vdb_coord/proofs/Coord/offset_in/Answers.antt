@@ -1,7 +1,5 @@
 -- Three positions along the axes make an offset.
-use Rattle.std.proofs.Common.{◌≡◌, ◌+◌, ◌*◌, ◌<◌, ◌≤◌, ◌^◌, ◌%◌, SFits, w32, rules, arith, sym, ◌∙◌}
-use Rattle.std.proofs.Math.Pow.{pow_mono}
-use Rattle.std.proofs.lemmas.Int.{to_z-of_z}
+use Rattle.vdb_coord.proofs.Common.{◌≡◌, ◌+◌, ◌*◌, ◌<◌, ◌≤◌, ◌^◌, ◌%◌, SFits, w32, rules, arith, sym, ◌∙◌, pow_mono, to_z-of_z}
 use Rattle.vdb_coord.proofs.Positions.{joined, node_bits_fit, offset_below, offset_is, shifted}
 use Rattle.vdb_coord.proofs.Coord.offset_in.Goals as goal
 

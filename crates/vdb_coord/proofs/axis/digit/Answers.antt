@@ -1,8 +1,5 @@
 -- The entry's number minus the first number of its block is the position.
-use Rattle.std.proofs.Common.{◌≡◌, ◌≤◌, ◌<◌, ◌+◌, ◌^◌, ◌+ℤ◌, ◌-ℤ◌, ℕ, ℤ, pos, SFits, w32, rules, arith, ap, refl, sym, subst, ◌∙◌}
-use Rattle.std.proofs.Math.Pow.{pow_mono}
-use Rattle.std.proofs.lemmas.Int.{ints, to_z-of_z}
-use Rattle.vdb_coord.specs.Components.{digit, first_of, number_at}
+use Rattle.vdb_coord.proofs.Common.{◌≡◌, ◌≤◌, ◌<◌, ◌+◌, ◌^◌, ◌+ℤ◌, ◌-ℤ◌, ℕ, ℤ, pos, SFits, w32, rules, arith, ap, refl, sym, subst, ◌∙◌, pow_mono, ints, to_z-of_z, digit, first_of, number_at}
 use Rattle.vdb_coord.proofs.Digits.{digit_below, number_split, number_up}
 use Rattle.vdb_coord.proofs.axis.digit.Goals as goal
 

@@ -1,7 +1,5 @@
 -- The first number of the entry fits as its block does.
-use Rattle.std.proofs.Common.{◌≡◌, ◌+◌, ◌*◌, ◌^◌, ◌%◌, ◌+ℤ◌, pos, SFits, w32, to_z, rules, arith}
-use Rattle.std.proofs.lemmas.Int.{to_z-of_z, to_z_pos}
-use Rattle.vdb_coord.specs.Components.{first_of, number_at}
+use Rattle.vdb_coord.proofs.Common.{◌≡◌, ◌+◌, ◌*◌, ◌^◌, ◌%◌, ◌+ℤ◌, pos, SFits, w32, to_z, rules, arith, to_z-of_z, to_z_pos, first_of, number_at}
 use Rattle.vdb_coord.proofs.Digits.{entry_first_fits}
 use Rattle.vdb_coord.proofs.axis.entry_first.Goals as goal
 

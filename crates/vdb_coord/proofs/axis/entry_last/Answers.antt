@@ -1,7 +1,5 @@
 -- The last number of the entry fits as its block does.
-use Rattle.std.proofs.Common.{◌+◌, ◌-◌, ◌*◌, ◌^◌, ◌+ℤ◌, pos, SFits, w32, rules}
-use Rattle.std.proofs.lemmas.Int.{to_z-of_z}
-use Rattle.vdb_coord.specs.Components.{first_of, number_at}
+use Rattle.vdb_coord.proofs.Common.{◌+◌, ◌-◌, ◌*◌, ◌^◌, ◌+ℤ◌, pos, SFits, w32, rules, to_z-of_z, first_of, number_at}
 use Rattle.vdb_coord.proofs.Digits.{entry_last_fits}
 use Rattle.vdb_coord.proofs.axis.entry_last.Goals as goal
 

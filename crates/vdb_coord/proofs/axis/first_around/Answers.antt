@@ -1,6 +1,5 @@
 -- The block's number times its length fits.
-use Rattle.std.proofs.Common.{◌≤◌, SFits, w32, rules, arith}
-use Rattle.std.proofs.lemmas.Int.{to_z-of_z}
+use Rattle.vdb_coord.proofs.Common.{◌≤◌, SFits, w32, rules, arith, to_z-of_z}
 use Rattle.vdb_coord.proofs.Digits.{first_fits}
 use Rattle.vdb_coord.proofs.axis.first_around.Goals as goal
 

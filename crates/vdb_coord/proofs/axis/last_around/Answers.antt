@@ -1,7 +1,5 @@
 -- The last number of the block fits as the component does.
-use Rattle.std.proofs.Common.{◌≤◌, SFits, w32, rules, arith}
-use Rattle.std.proofs.lemmas.Int.{to_z-of_z}
-use Rattle.vdb_coord.specs.Components.{last_of, number_at}
+use Rattle.vdb_coord.proofs.Common.{◌≤◌, SFits, w32, rules, arith, to_z-of_z, last_of, number_at}
 use Rattle.vdb_coord.proofs.Digits.{last_fits}
 use Rattle.vdb_coord.proofs.axis.last_around.Goals as goal
 

@@ -1,6 +1,5 @@
 -- The last number of the block fits.
-use Rattle.std.proofs.Common.{SFits, w32, rules}
-use Rattle.std.proofs.lemmas.Int.{to_z-of_z}
+use Rattle.vdb_coord.proofs.Common.{SFits, w32, rules, to_z-of_z}
 use Rattle.vdb_coord.proofs.Meeting.{numbered_fits}
 use Rattle.vdb_coord.proofs.axis.last_numbered.Goals as goal
 

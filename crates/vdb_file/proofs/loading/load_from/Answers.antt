@@ -1,15 +1,6 @@
-use Rattle.std.proofs.Common.{◌≡◌, ◌∙◌, ◌≤◌, false, true, ap, arith, sym, subst, Err, Ok, Some}
-use Rattle.std.specs.Prelude.{IfSome}
+use Rattle.vdb_file.proofs.Common.{◌≡◌, ◌∙◌, ◌≤◌, false, true, ap, arith, sym, subst, Err, Ok, Some, IfSome, err_from_is_err_and, scene_of, Scene, BeginsAsFile, Claims, HasOtherMagic, HasOtherVersion, IsFieldFault, Version, IsFile, bytes_of_file, Fails, GaveWithin, Stock, Took, ahead, byte_total, position}
 use Rattle.std.proofs.KnownBytes.{prepend_known-end}
-use Rattle.std.proofs.lemmas.Result.{err_from_is_err_and}
-use Rattle.vdb_scene.specs.Grids.{scene_of}
-use Rattle.vdb_scene.specs.Scene.{Scene}
-use Rattle.vdb_file.specs.Faults.{BeginsAsFile, Claims, HasOtherMagic, HasOtherVersion}
-use Rattle.vdb_file.specs.internal.FieldFaults.{IsFieldFault}
 use Rattle.vdb_file.specs.declared.fault.LoadFault.TheVariants as faults
-use Rattle.vdb_file.specs.declared.loading.versions.Version.{Version}
-use Rattle.vdb_file.specs.internal.Parts.{IsFile, bytes_of_file}
-use Rattle.vdb_file.specs.internal.Reading.{Fails, GaveWithin, Stock, Took, ahead, byte_total, position}
 use Rattle.vdb_file.proofs.FieldBytes.{ended_within, gave_few, gave_within}
 use Rattle.vdb_file.proofs.WholeFiles.{begins_only, ends_early, file_and_more, no_file, nothing_before, reader_at_end, scene_is, whole_file}
 use Rattle.vdb_file.proofs.loading.load_from.Goals as goal

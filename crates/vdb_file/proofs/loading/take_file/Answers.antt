@@ -1,8 +1,5 @@
-use Rattle.std.proofs.Common.{◌≡◌, ap, arith, subst, Err}
-use Rattle.std.proofs.lemmas.Result.{err_from_is_err_and}
-use Rattle.vdb_scene.specs.Grids.{scene_of}
-use Rattle.vdb_file.specs.internal.FieldFaults.{IsInner, IsMagicFault, IsVersionFault}
-use Rattle.vdb_file.specs.declared.fault.LoadFault.TheVariants.{Magic, Truncated, Version}
+use Rattle.vdb_file.proofs.Common.{◌≡◌, ap, arith, subst, Err, err_from_is_err_and, scene_of, IsInner, IsMagicFault, IsVersionFault, Magic, Truncated}
+use Rattle.vdb_file.specs.declared.fault.LoadFault.TheVariants.{Version}
 use Rattle.vdb_file.proofs.Beginnings.{begins_as_file, has_other_version, inner_field, is_version, magic_field, short_magic, version_field}
 use Rattle.vdb_file.proofs.SceneParts.{file_read, no_file_scene, no_file_version, no_magic}
 use Rattle.vdb_file.proofs.loading.take_file.Goals as goal

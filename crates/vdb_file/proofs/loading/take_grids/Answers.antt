@@ -1,9 +1,5 @@
-use Rattle.std.proofs.Common.{rules, ◌≡◌, ◌++◌, ◌∷◌, [], ◌∙◌, length-append, refl, sym, subst, arith}
-use Rattle.std.specs.Prelude.{None}
-use Rattle.std.proofs.lemmas.Result.{err_from_is_err_and}
-use Rattle.vdb_scene.specs.Grids.{scene_of}
-use Rattle.vdb_file.specs.internal.Parts.{IsItem, IsNamed, name_of, named_bytes, named_view}
-use Rattle.vdb_file.specs.internal.Reading.{Fails, ahead}
+use Rattle.vdb_file.proofs.Common.{rules, ◌≡◌, ◌++◌, ◌∷◌, [], ◌∙◌, length-append, refl, sym, subst, arith, None, err_from_is_err_and, scene_of, IsItem, IsNamed, name_of, named_bytes, Fails, ahead}
+use Rattle.vdb_file.specs.internal.Parts.{named_view}
 use Rattle.vdb_file.proofs.Fronts.{took_nothing}
 use Rattle.vdb_file.proofs.GridParts.{named_code}
 use Rattle.vdb_file.proofs.Items.{are_items, chain_more, fails_within, last_more, more_read, put_last}

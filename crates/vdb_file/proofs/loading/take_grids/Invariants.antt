@@ -1,10 +1,4 @@
-use Rattle.std.proofs.Common.{◌≡◌, length, ℕ, Some}
-use Rattle.std.specs.Prelude.{None}
-use Rattle.std.specs.List.{flat_map}
-use Rattle.vdb_scene.specs.Grids.{scene_of}
-use Rattle.vdb_scene.specs.Accessors.{HaveUnusedAccessors}
-use Rattle.vdb_file.specs.internal.Parts.{IsNamed, name_of, named_bytes}
-use Rattle.vdb_file.specs.internal.Reading.{EndsWith, GaveWithin, Took, ahead, byte_total}
+use Rattle.vdb_file.proofs.Common.{◌≡◌, length, ℕ, Some, None, flat_map, scene_of, HaveUnusedAccessors, IsNamed, name_of, named_bytes, EndsWith, GaveWithin, Took, ahead, byte_total}
 use Rattle.vdb_file.proofs.Items.{IsChain, last_of}
 use Rattle.vdb_file.proofs.loading.take_grids.Given as goal
 

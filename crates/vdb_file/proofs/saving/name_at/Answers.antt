@@ -1,5 +1,4 @@
-use Rattle.std.proofs.Common.{◌∙◌, ap}
-use Rattle.std.specs.List.{slice_get}
+use Rattle.vdb_file.proofs.Common.{◌∙◌, ap, slice_get}
 use Rattle.vdb_file.proofs.NthItems.{nth_is}
 use Rattle.vdb_file.proofs.saving.name_at.Goals as goal
 

@@ -1,5 +1,4 @@
-use Rattle.std.proofs.Common.{◌++◌, ℕ, List, refl, arith, rules}
-use Rattle.vdb_file.specs.Spelling.{counted}
+use Rattle.vdb_file.proofs.Common.{◌++◌, ℕ, List, refl, arith, rules, counted}
 use Rattle.vdb_file.proofs.Outputs.{puts_none}
 use Rattle.vdb_file.proofs.Passing.{all_taken, member_at, taken_put}
 use Rattle.vdb_file.proofs.saving.put_each_pair.Goals as goal

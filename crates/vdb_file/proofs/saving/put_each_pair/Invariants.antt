@@ -1,8 +1,4 @@
-use Rattle.std.proofs.Common.{◌≡◌, ◌++◌, take}
-use Rattle.std.specs.List.{flat_map}
-use Rattle.vdb_scene.specs.Watched.{has_failed, source}
-use Rattle.vdb_file.specs.Spelling.{counted}
-use Rattle.vdb_file.specs.internal.Written.{Puts, sent}
+use Rattle.vdb_file.proofs.Common.{◌≡◌, ◌++◌, take, flat_map, has_failed, source, counted, Puts, sent}
 use Rattle.vdb_file.proofs.saving.put_each_pair.Given as goal
 
 -- the first `i` pairs are written

@@ -1,12 +1,4 @@
-use Rattle.std.proofs.Common.{refl, sym}
-use Rattle.std.proofs.Math.Bool.{beq}
-use Rattle.std.proofs.lemmas.Result.{on_ok_weaker}
-use Rattle.std.specs.Int.{w32, w64}
-use Rattle.std.specs.Ordering.{int_eq}
-use Rattle.vdb_coord.specs.Blocks.{vdb}
-use Rattle.vdb_value.specs.Values.{number_bytes, truth_bytes}
-use Rattle.vdb_tree.specs.Layout.{cell_at}
-use Rattle.vdb_scene.specs.Scalars.{scalar_bytes, scalar_eq}
+use Rattle.vdb_file.proofs.Common.{refl, sym, beq, on_ok_weaker, w32, w64, int_eq, vdb, number_bytes, truth_bytes, cell_at, scalar_bytes, scalar_eq}
 use Rattle.vdb_scene.specs.declared.scalar.Scalar.TheVariants as scalars
 use Rattle.vdb_file.proofs.MadeBodies.{made_roots}
 use Rattle.vdb_file.proofs.Outputs.{puts_same}

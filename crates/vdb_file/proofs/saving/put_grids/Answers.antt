@@ -1,6 +1,4 @@
-use Rattle.std.proofs.Common.{refl, arith, rules}
-use Rattle.vdb_scene.specs.Grids.{scene_of}
-use Rattle.vdb_file.specs.Spelling.{grid_bytes, head_bytes}
+use Rattle.vdb_file.proofs.Common.{refl, arith, rules, scene_of, grid_bytes, head_bytes}
 use Rattle.vdb_file.proofs.Outputs.{puts_none}
 use Rattle.vdb_file.proofs.Passing.{all_taken, member_at, taken_put}
 use Rattle.vdb_file.proofs.saving.put_grids.Goals as goal

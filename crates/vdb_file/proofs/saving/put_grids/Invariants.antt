@@ -1,9 +1,4 @@
-use Rattle.std.proofs.Common.{◌≡◌, take}
-use Rattle.std.specs.List.{flat_map}
-use Rattle.vdb_scene.specs.Grids.{scene_of}
-use Rattle.vdb_scene.specs.Watched.{has_failed, source}
-use Rattle.vdb_file.specs.Spelling.{grid_bytes, head_bytes}
-use Rattle.vdb_file.specs.internal.Written.{Puts, sent}
+use Rattle.vdb_file.proofs.Common.{◌≡◌, take, flat_map, scene_of, has_failed, source, grid_bytes, head_bytes, Puts, sent}
 use Rattle.vdb_file.proofs.saving.put_grids.Given as goal
 
 -- the first `i` grids are written

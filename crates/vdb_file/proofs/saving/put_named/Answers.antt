@@ -1,6 +1,4 @@
-use Rattle.std.proofs.lemmas.Result.{on_ok_weaker}
-use Rattle.vdb_scene.specs.Grids.{scene_of}
-use Rattle.vdb_scene.specs.Scene.{Grid, grid_at}
+use Rattle.vdb_file.proofs.Common.{on_ok_weaker, scene_of, Grid, grid_at}
 use Rattle.vdb_file.proofs.Outputs.{puts_same}
 use Rattle.vdb_file.proofs.SavedGrids.{made_there, not_there, parts_same}
 use Rattle.vdb_file.proofs.saving.put_named.Goals as goal

@@ -1,9 +1,4 @@
-use Rattle.std.proofs.Common.{◌≡◌, ◌∙◌, ap, sym, subst}
-use Rattle.std.proofs.lemmas.Result.{on_ok_weaker}
-use Rattle.std.specs.Prelude.{Some}
-use Rattle.vdb_scene.specs.Grids.{scene_of}
-use Rattle.vdb_scene.specs.Scene.{grid_at}
-use Rattle.vdb_file.specs.Spelling.{grid_bytes, head_bytes}
+use Rattle.vdb_file.proofs.Common.{◌≡◌, ◌∙◌, ap, sym, subst, on_ok_weaker, Some, scene_of, grid_at, grid_bytes, head_bytes}
 use Rattle.vdb_file.proofs.Outputs.{puts_same}
 use Rattle.vdb_file.proofs.Passing.{same_some}
 use Rattle.vdb_file.proofs.SavedGrids.{grid_of_position, name_of_position}

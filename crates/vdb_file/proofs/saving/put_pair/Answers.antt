@@ -1,6 +1,4 @@
-use Rattle.std.proofs.Common.{◌∙◌, ◌++◌, sym, ap}
-use Rattle.std.proofs.lemmas.Result.{on_ok_weaker}
-use Rattle.vdb_file.specs.Spelling.{counted}
+use Rattle.vdb_file.proofs.Common.{◌∙◌, ◌++◌, sym, ap, on_ok_weaker, counted}
 use Rattle.vdb_file.proofs.Outputs.{puts_same}
 use Rattle.vdb_file.proofs.Passing.{same_some}
 use Rattle.vdb_file.proofs.saving.put_pair.Goals as goal

@@ -1,5 +1,4 @@
-use Rattle.std.proofs.Common.{◌*◌, inl, inr, length}
-use Rattle.std.proofs.lemmas.Bool.{cases_lt}
+use Rattle.vdb_mask.proofs.Common.{◌*◌, inl, inr, length, cases_lt}
 use Rattle.vdb_mask.proofs.RowBits.{is_on-past}
 use Rattle.vdb_mask.proofs.Mask.all_off.Goals as goal
 

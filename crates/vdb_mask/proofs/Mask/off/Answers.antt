@@ -1,5 +1,4 @@
-use Rattle.std.proofs.Common.{◌*◌, inl, inr, ◌∙◌}
-use Rattle.std.proofs.lemmas.Bool.{cases_lt}
+use Rattle.vdb_mask.proofs.Common.{◌*◌, inl, inr, ◌∙◌, cases_lt}
 use Rattle.vdb_mask.proofs.RowBits.{is_on-replicate, is_on-replicate_past}
 use Rattle.vdb_mask.proofs.WordBits.{has_bit-zero}
 use Rattle.vdb_mask.proofs.Mask.off.Goals as goal

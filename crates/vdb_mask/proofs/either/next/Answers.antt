@@ -1,5 +1,4 @@
-use Rattle.std.proofs.Common.{◌*◌, ◌%◌, ◌/◌, ◌≡◌, ℕ, arith, inl, inr}
-use Rattle.std.proofs.lemmas.Bool.{cases_lt}
+use Rattle.vdb_mask.proofs.Common.{◌*◌, ◌%◌, ◌/◌, ◌≡◌, ℕ, arith, inl, inr, cases_lt}
 use Rattle.std.proofs.lemmas.Nat.{or_lt}
 use Rattle.vdb_mask.proofs.EitherSearch.{first_shown, none_shown, Shows-either, Shows-from}
 use Rattle.vdb_mask.proofs.either.next.Goals as goal

@@ -1,6 +1,4 @@
-use Rattle.std.proofs.Common.{◌≡◌, ◌*◌, ◌<◌, ◌≤◌, ℕ, false}
-use Rattle.std.specs.Prelude.{◌||◌}
-use Rattle.vdb_mask.specs.Mask.{bits_of, is_on, is_value}
+use Rattle.vdb_mask.proofs.Common.{◌≡◌, ◌*◌, ◌<◌, ◌≤◌, ℕ, false, ◌||◌, bits_of, is_on, is_value}
 use Rattle.vdb_mask.proofs.either.next.Given as goal
 
 abbrev pub invariant-words : goal.invariant-words

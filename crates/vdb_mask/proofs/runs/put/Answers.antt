@@ -1,5 +1,4 @@
-use Rattle.std.proofs.Common.{◌≡◌, ◌+◌, ◌-◌, ◌*◌, ◌/◌, ◌%◌, ◌<◌, ◌≤◌, ℕ, length, max, min, arith, inl, inr, ◌∙◌}
-use Rattle.std.proofs.lemmas.Bool.{cases_lt}
+use Rattle.vdb_mask.proofs.Common.{◌≡◌, ◌+◌, ◌-◌, ◌*◌, ◌/◌, ◌%◌, ◌<◌, ◌≤◌, ℕ, length, max, min, arith, inl, inr, ◌∙◌, cases_lt}
 use Rattle.vdb_mask.proofs.RunBits.{kept_after, kept_before, written_run}
 use Rattle.vdb_mask.proofs.runs.put.Goals as goal
 

@@ -1,5 +1,4 @@
-use Rattle.std.proofs.Common.{◌≡◌, ◌*◌, ◌<◌, ◌≤◌, ℕ}
-use Rattle.vdb_mask.specs.Mask.{bits_of, is_on}
+use Rattle.vdb_mask.proofs.Common.{◌≡◌, ◌*◌, ◌<◌, ◌≤◌, ℕ, bits_of, is_on}
 use Rattle.vdb_mask.proofs.runs.put.Given as goal
 
 abbrev pub invariant-words : goal.invariant-words

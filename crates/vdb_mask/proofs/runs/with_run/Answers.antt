@@ -1,7 +1,4 @@
-use Rattle.std.proofs.Common.{◌≡◌, ◌-◌, ◌*◌, ◌/◌, ◌%◌, ◌^◌, ◌<◌, ℕ, Bool, true, false, refl, sym, ◌∙◌, arith}
-use Rattle.std.specs.Prelude.{◌||◌, ◌&&◌, not}
-use Rattle.std.proofs.lemmas.Nat.{and_le_l}
-use Rattle.vdb_mask.specs.Mask.{has_bit}
+use Rattle.vdb_mask.proofs.Common.{◌≡◌, ◌-◌, ◌*◌, ◌/◌, ◌%◌, ◌^◌, ◌<◌, ℕ, Bool, true, false, refl, sym, ◌∙◌, arith, ◌||◌, ◌&&◌, not, and_le_l, has_bit}
 use Rattle.vdb_mask.proofs.RunBits.{run_word, run_word-in, run_word-before, run_word-after}
 use Rattle.vdb_mask.proofs.WordBits.{has_bit-and_not, has_bit-or}
 use Rattle.vdb_mask.proofs.runs.with_run.Goals as goal

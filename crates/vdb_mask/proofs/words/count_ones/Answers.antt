@@ -1,6 +1,5 @@
-use Rattle.std.proofs.Common.{◌*◌, arith, sym}
+use Rattle.vdb_mask.proofs.Common.{◌*◌, arith, sym, bits_of}
 use Rattle.std.proofs.lemmas.Nat.{ones-le}
-use Rattle.vdb_mask.specs.Mask.{bits_of}
 use Rattle.vdb_mask.proofs.MaskLemmas.{on_count-le, on_count-zero}
 use Rattle.vdb_mask.proofs.RowBits.{is_on-at}
 use Rattle.vdb_mask.proofs.WordCounts.{on_count-word}

@@ -1,5 +1,4 @@
-use Rattle.std.proofs.Common.{◌≡◌, ◌*◌}
-use Rattle.vdb_mask.specs.Mask.{bits_of, on_count}
+use Rattle.vdb_mask.proofs.Common.{◌≡◌, ◌*◌, bits_of, on_count}
 use Rattle.vdb_mask.proofs.words.count_ones.Given as goal
 
 abbrev pub invariant-counted : goal.invariant-counted

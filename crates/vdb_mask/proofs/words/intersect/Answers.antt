@@ -1,5 +1,4 @@
-use Rattle.std.proofs.Common.{refl}
-use Rattle.std.specs.Prelude.{◌&&◌, bit_and}
+use Rattle.vdb_mask.proofs.Common.{refl, ◌&&◌, bit_and}
 use Rattle.vdb_mask.proofs.Loops.{is_on-combined}
 use Rattle.vdb_mask.proofs.WordBits.{has_bit-and}
 use Rattle.vdb_mask.proofs.words.intersect.Goals as goal

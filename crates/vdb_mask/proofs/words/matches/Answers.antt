@@ -1,6 +1,4 @@
-use Rattle.std.proofs.Common.{◌≡◌, arith, refl, sym, w64}
-use Rattle.std.specs.Int.{bit_at}
-use Rattle.std.proofs.lemmas.Nat.Bits.{bit_at_not, bit_at-lt}
+use Rattle.vdb_mask.proofs.Common.{◌≡◌, arith, refl, sym, w64, bit_at, bit_at_not, bit_at-lt}
 use Rattle.vdb_mask.proofs.words.matches.Goals as goal
 
 pub returns-else-value-clause-ones : goal.returns-else-value-clause-ones

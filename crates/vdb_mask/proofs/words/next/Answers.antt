@@ -1,5 +1,4 @@
-use Rattle.std.proofs.Common.{◌*◌, ◌%◌, ◌/◌, ◌≡◌, ℕ, arith, get_or, inl, inr}
-use Rattle.std.proofs.lemmas.Bool.{cases_lt}
+use Rattle.vdb_mask.proofs.Common.{◌*◌, ◌%◌, ◌/◌, ◌≡◌, ℕ, arith, get_or, inl, inr, cases_lt}
 use Rattle.vdb_mask.proofs.RowSearch.{Finds-from, Finds-matches, first_found, none_found}
 use Rattle.vdb_mask.proofs.words.next.Goals as goal
 

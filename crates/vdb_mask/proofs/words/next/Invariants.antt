@@ -1,6 +1,4 @@
-use Rattle.std.proofs.Common.{◌≡◌, ◌*◌, ◌<◌, ◌≤◌, ℕ}
-use Rattle.std.specs.Prelude.{not}
-use Rattle.vdb_mask.specs.Mask.{bits_of, is_on}
+use Rattle.vdb_mask.proofs.Common.{◌≡◌, ◌*◌, ◌<◌, ◌≤◌, ℕ, not, bits_of, is_on}
 use Rattle.vdb_mask.proofs.words.next.Given as goal
 
 abbrev pub invariant-words : goal.invariant-words

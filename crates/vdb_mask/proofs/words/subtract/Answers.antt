@@ -1,6 +1,4 @@
-use Rattle.std.proofs.Common.{refl, w64}
-use Rattle.std.specs.Prelude.{◌&&◌, bit_and, not}
-use Rattle.std.specs.Int.{bit_not}
+use Rattle.vdb_mask.proofs.Common.{refl, w64, ◌&&◌, bit_and, not, bit_not}
 use Rattle.vdb_mask.proofs.Loops.{is_on-combined}
 use Rattle.vdb_mask.proofs.WordBits.{has_bit-and_not}
 use Rattle.vdb_mask.proofs.words.subtract.Goals as goal

@@ -1,6 +1,4 @@
-use Rattle.std.proofs.Common.{w64}
-use Rattle.std.specs.Prelude.{bit_and}
-use Rattle.std.specs.Int.{bit_not}
+use Rattle.vdb_mask.proofs.Common.{w64, bit_and, bit_not}
 use Rattle.vdb_mask.proofs.Loops.{CombinesBelow}
 use Rattle.vdb_mask.proofs.words.subtract.Given as goal
 

@@ -1,5 +1,4 @@
-use Rattle.std.proofs.Common.{refl}
-use Rattle.std.specs.Prelude.{◌||◌, bit_or}
+use Rattle.vdb_mask.proofs.Common.{refl, ◌||◌, bit_or}
 use Rattle.vdb_mask.proofs.Loops.{is_on-combined}
 use Rattle.vdb_mask.proofs.WordBits.{has_bit-or}
 use Rattle.vdb_mask.proofs.words.unite.Goals as goal

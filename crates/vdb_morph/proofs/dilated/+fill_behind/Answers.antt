@@ -1,11 +1,5 @@
 -- The first face's slab becomes active after those of the other faces.
-use Rattle.std.proofs.Common.{◌∙◌, ap, refl, sym, Bool, List}
-use Rattle.vdb_coord.specs.Blocks.{vdb}
-use Rattle.vdb_coord.specs.declared.face.Face.{Face}
-use Rattle.vdb_tree.specs.Field.{Field, fill}
-use Rattle.vdb_tree.specs.Layout.{cell_at, field_of}
-use Rattle.vdb_morph.specs.internal.Behind.{is_behind_any}
-use Rattle.vdb_morph.specs.internal.Iterating.{with_active}
+use Rattle.vdb_morph.proofs.Common.{◌∙◌, ap, refl, sym, Bool, List, vdb, Face, Field, fill, cell_at, field_of, is_behind_any, with_active}
 use Rattle.vdb_morph.proofs.Marks.{changed_if_ok}
 use Rattle.vdb_morph.proofs.SpreadBoxes.{active, behind_next, behind_skip}
 use Rattle.vdb_morph.proofs.dilated.+fill_behind.Goals as goal

@@ -1,8 +1,4 @@
-use Rattle.std.proofs.Common.{◌∙◌, ap, arith, refl, sym, Bool, List}
-use Rattle.vdb_coord.specs.Blocks.{offset, vdb}
-use Rattle.vdb_coord.specs.declared.Level.TheVariants.{Leaf}
-use Rattle.vdb_mask.specs.Mask.{is_on}
-use Rattle.vdb_value.specs.declared.Cell.{Cell}
+use Rattle.vdb_morph.proofs.Common.{◌∙◌, ap, arith, refl, sym, Bool, List, offset, vdb, Leaf, is_on, Cell}
 use Rattle.vdb_morph.proofs.BesideStates.{offset_low}
 use Rattle.vdb_morph.proofs.Spreading.{from_around}
 use Rattle.vdb_morph.proofs.dilated.block_states.Goals as goal

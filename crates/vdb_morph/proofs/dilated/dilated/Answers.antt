@@ -1,10 +1,4 @@
-use Rattle.std.proofs.Common.{◌≡◌, ap, arith, refl, rules, subst, sym, ◌∙◌, IsTrue, Some}
-use Rattle.std.specs.Prelude.{Option}
-use Rattle.vdb_coord.specs.Blocks.{vdb}
-use Rattle.vdb_coord.specs.Space.{Box, everywhere, is_inside}
-use Rattle.vdb_coord.specs.declared.Coord.{Coord}
-use Rattle.vdb_tree.specs.Layout.{field_of}
-use Rattle.vdb_tree.proofs.Sizes.{internal_small, leaf_small}
+use Rattle.vdb_morph.proofs.Common.{◌≡◌, ap, arith, refl, rules, subst, sym, ◌∙◌, IsTrue, Some, Option, vdb, Box, everywhere, is_inside, Coord, field_of, internal_small, leaf_small}
 use Rattle.vdb_morph.proofs.TreeSizes.{tree_small}
 use Rattle.vdb_morph.proofs.Spreading.{IsPartly, leaf_more, of_leaf, of_tile, partly_first, partly_last, partly_values, tile_kept, tile_more, tree_cut}
 use Rattle.vdb_morph.proofs.dilated.dilated.Goals as goal

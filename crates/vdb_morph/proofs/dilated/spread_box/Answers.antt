@@ -1,7 +1,5 @@
 -- A box spreads to the voxels behind its faces.
-use Rattle.std.proofs.Common.{◌∙◌}
-use Rattle.vdb_coord.specs.Blocks.{vdb}
-use Rattle.vdb_tree.specs.Layout.{cell_at}
+use Rattle.vdb_morph.proofs.Common.{◌∙◌, vdb, cell_at}
 use Rattle.vdb_morph.proofs.SpreadBoxes.{active_behind}
 use Rattle.vdb_morph.proofs.dilated.spread_box.Goals as goal
 

@@ -1,8 +1,4 @@
-use Rattle.std.proofs.Common.{◌&&◌, ◌∙◌, Bool}
-use Rattle.vdb_coord.specs.Blocks.{vdb}
-use Rattle.vdb_coord.specs.declared.Coord.{Coord}
-use Rattle.vdb_tree.specs.Layout.{field_of}
-use Rattle.vdb_morph.specs.internal.Iterating.{is_around, is_marked}
+use Rattle.vdb_morph.proofs.Common.{◌&&◌, ◌∙◌, Bool, vdb, Coord, field_of, is_around, is_marked}
 use Rattle.vdb_morph.proofs.Spreading.{marked_states, spread_alike}
 use Rattle.vdb_morph.proofs.dilated.spread_leaf.Goals as goal
 

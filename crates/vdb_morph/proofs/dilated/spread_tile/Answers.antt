@@ -1,7 +1,4 @@
-use Rattle.std.proofs.Common.{Bool, ◌&&◌, ◌∙◌, ap, sym}
-use Rattle.vdb_coord.specs.Blocks.{vdb}
-use Rattle.vdb_coord.specs.Space.{is_inside}
-use Rattle.vdb_tree.specs.Layout.{cell_at, field_of}
+use Rattle.vdb_morph.proofs.Common.{Bool, ◌&&◌, ◌∙◌, ap, sym, vdb, is_inside, cell_at, field_of}
 use Rattle.vdb_morph.proofs.Spreading.{spread_alike, spread_none}
 use Rattle.vdb_morph.proofs.dilated.spread_tile.Goals as goal
 

@@ -1,12 +1,4 @@
-use Rattle.std.proofs.Common.{◌≡◌, ◌∙◌, true, arith}
-use Rattle.vdb_coord.specs.Blocks.{block_around, offset, vdb}
-use Rattle.vdb_coord.specs.Space.{is_inside}
-use Rattle.vdb_coord.specs.declared.Coord.{Coord}
-use Rattle.vdb_coord.specs.declared.Level.TheVariants.{Leaf}
-use Rattle.vdb_mask.specs.Mask.{is_on}
-use Rattle.vdb_tree.specs.Layout.{field_of}
-use Rattle.vdb_walk.proofs.Cuts.{same_boxes}
-use Rattle.vdb_morph.specs.internal.Iterating.{is_marked}
+use Rattle.vdb_morph.proofs.Common.{◌≡◌, ◌∙◌, true, arith, block_around, offset, vdb, is_inside, Coord, Leaf, is_on, field_of, same_boxes, is_marked}
 use Rattle.vdb_morph.proofs.BesideStates.{offset_low}
 use Rattle.vdb_morph.proofs.Spreading.{marked_block, spread_alike}
 use Rattle.vdb_morph.proofs.dilated.spread_voxels.Goals as goal

@@ -1,8 +1,5 @@
 -- The written states are those of the eroded field.
-use Rattle.std.proofs.Common.{◌∙◌}
-use Rattle.vdb_coord.specs.Blocks.{vdb}
-use Rattle.vdb_tree.specs.Field.{erode}
-use Rattle.vdb_tree.specs.Layout.{field_of}
+use Rattle.vdb_morph.proofs.Common.{◌∙◌, vdb, erode, field_of}
 use Rattle.vdb_morph.proofs.BlockStates.{states_taken}
 use Rattle.vdb_morph.proofs.erode_block.erode_block.Goals as goal
 

@@ -1,12 +1,5 @@
 -- Face by face.
-use Rattle.std.proofs.Common.{◌≡◌, ap, ◌∙◌, refl, sym, arith, get_or, take, ℕ, Bool, List, ◌&&◌}
-use Rattle.vdb_coord.specs.Blocks.{offset, vdb}
-use Rattle.vdb_coord.specs.Faces.{faces}
-use Rattle.vdb_coord.specs.declared.Level.TheVariants.{Leaf}
-use Rattle.vdb_coord.specs.declared.face.Face.TheVariants.{MinusX}
-use Rattle.vdb_mask.specs.Mask.{is_on}
-use Rattle.vdb_tree.specs.Layout.{field_of}
-use Rattle.vdb_morph.specs.internal.BlockStates.{state_behind}
+use Rattle.vdb_morph.proofs.Common.{◌≡◌, ap, ◌∙◌, refl, sym, arith, get_or, take, ℕ, Bool, List, ◌&&◌, offset, vdb, faces, Leaf, MinusX, is_on, field_of, state_behind}
 use Rattle.vdb_morph.proofs.ErodedBlocks.{eroded_is, off_eroded, stays_by, stays_first, stays_more}
 use Rattle.vdb_morph.proofs.erode_block.eroded_states.Goals as goal
 

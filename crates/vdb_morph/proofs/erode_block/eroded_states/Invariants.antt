@@ -1,12 +1,4 @@
-use Rattle.std.proofs.Common.{◌≡◌, IsTrue, take}
-use Rattle.vdb_coord.specs.Blocks.{offset, vdb}
-use Rattle.vdb_coord.specs.Faces.{faces}
-use Rattle.vdb_coord.specs.Space.{everywhere, is_inside}
-use Rattle.vdb_coord.specs.declared.Coord.{Coord}
-use Rattle.vdb_coord.specs.declared.Level.TheVariants.{Leaf}
-use Rattle.vdb_mask.specs.Mask.{is_on}
-use Rattle.vdb_tree.specs.Layout.{field_of}
-use Rattle.vdb_morph.specs.internal.Iterating.{is_around}
+use Rattle.vdb_morph.proofs.Common.{◌≡◌, IsTrue, take, offset, vdb, faces, everywhere, is_inside, Coord, Leaf, is_on, field_of, is_around}
 use Rattle.vdb_morph.proofs.ErodedBlocks.{stays_by}
 use Rattle.vdb_morph.proofs.erode_block.eroded_states.Given as goal
 

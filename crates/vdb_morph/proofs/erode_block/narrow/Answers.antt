@@ -1,10 +1,5 @@
 -- Both masks have the state behind the face.
-use Rattle.std.proofs.Common.{ap, ◌∙◌, rules, ◌&&◌}
-use Rattle.vdb_coord.specs.Blocks.{offset, vdb}
-use Rattle.vdb_coord.specs.declared.Level.TheVariants.{Leaf}
-use Rattle.vdb_coord.proofs.Meeting.{fits_everywhere}
-use Rattle.vdb_mask.specs.Mask.{is_on}
-use Rattle.vdb_tree.specs.Layout.{field_of}
+use Rattle.vdb_morph.proofs.Common.{ap, ◌∙◌, rules, ◌&&◌, offset, vdb, Leaf, fits_everywhere, is_on, field_of}
 use Rattle.vdb_morph.proofs.Crossings.{vdb_bits}
 use Rattle.vdb_morph.proofs.ErodedBlocks.{beside_behind}
 use Rattle.vdb_morph.proofs.erode_block.narrow.Goals as goal

@@ -1,7 +1,5 @@
 -- The states of the leaf, or of a tile.
-use Rattle.std.proofs.Common.{refl, ◌∙◌, arith}
-use Rattle.vdb_coord.specs.Blocks.{vdb}
-use Rattle.vdb_tree.specs.Layout.{field_of}
+use Rattle.vdb_morph.proofs.Common.{refl, ◌∙◌, arith, vdb, field_of}
 use Rattle.vdb_morph.proofs.BlockStates.{leaf_states, tile_states}
 use Rattle.vdb_morph.proofs.erode_block.states_at.Goals as goal
 

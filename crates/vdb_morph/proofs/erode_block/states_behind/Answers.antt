@@ -1,9 +1,5 @@
 -- The states of the block there, or all on if the range ends.
-use Rattle.std.proofs.Common.{refl, rules, arith}
-use Rattle.vdb_coord.specs.Blocks.{offset, vdb}
-use Rattle.vdb_coord.specs.declared.Level.TheVariants.{Leaf}
-use Rattle.vdb_coord.proofs.Meeting.{fits_everywhere}
-use Rattle.vdb_tree.specs.Layout.{field_of}
+use Rattle.vdb_morph.proofs.Common.{refl, rules, arith, offset, vdb, Leaf, fits_everywhere, field_of}
 use Rattle.vdb_morph.proofs.BesideStates.{offset_low}
 use Rattle.vdb_morph.proofs.Crossings.{vdb_bits}
 use Rattle.vdb_morph.proofs.ErodedBlocks.{nowhere_behind, there_behind}

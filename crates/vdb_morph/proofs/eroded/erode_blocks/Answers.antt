@@ -1,10 +1,4 @@
-use Rattle.std.proofs.Common.{refl, subst, true}
-use Rattle.std.specs.Prelude.{Option}
-use Rattle.vdb_coord.specs.Blocks.{vdb}
-use Rattle.vdb_coord.specs.declared.Coord.{Coord}
-use Rattle.vdb_tree.specs.Field.{Field}
-use Rattle.vdb_tree.specs.Layout.{cell_at, field_of}
-use Rattle.vdb_morph.specs.internal.Iterating.{is_around}
+use Rattle.vdb_morph.proofs.Common.{refl, subst, true, Option, vdb, Coord, Field, cell_at, field_of, is_around}
 use Rattle.vdb_morph.proofs.Eroding.{IsDoneTo, done_more, done_none, erodes_none, erodes_taken, erodes_then, nearer_left, taken_eroded}
 use Rattle.vdb_morph.proofs.eroded.erode_blocks.Goals as goal
 

@@ -1,7 +1,4 @@
-use Rattle.vdb_coord.specs.Blocks.{vdb}
-use Rattle.vdb_tree.specs.Layout.{field_of}
-use Rattle.vdb_tree.specs.Parts.{left_count}
-use Rattle.vdb_morph.specs.internal.Eroding.{Erodes}
+use Rattle.vdb_morph.proofs.Common.{vdb, field_of, left_count, Erodes}
 use Rattle.vdb_morph.proofs.Eroding.{IsDoneTo}
 use Rattle.vdb_morph.proofs.eroded.erode_blocks.Given as goal
 

@@ -1,7 +1,4 @@
-use Rattle.std.proofs.Common.{arith, refl, true}
-use Rattle.vdb_coord.specs.Blocks.{vdb}
-use Rattle.vdb_tree.specs.Field.{Field}
-use Rattle.vdb_tree.specs.Layout.{field_of}
+use Rattle.vdb_morph.proofs.Common.{arith, refl, true, vdb, Field, field_of}
 use Rattle.vdb_morph.proofs.Eroding.{erodes_none, erodes_then, still_either}
 use Rattle.vdb_morph.proofs.Settling.{settled_more, settled_none, settled_whole}
 use Rattle.vdb_morph.proofs.eroded.erode_box.Goals as goal

@@ -1,6 +1,4 @@
-use Rattle.vdb_coord.specs.Blocks.{vdb}
-use Rattle.vdb_tree.specs.Layout.{field_of}
-use Rattle.vdb_morph.specs.internal.Eroding.{Erodes}
+use Rattle.vdb_morph.proofs.Common.{vdb, field_of, Erodes}
 use Rattle.vdb_morph.proofs.Settling.{AreSettled}
 use Rattle.vdb_morph.proofs.eroded.erode_box.Given as goal
 

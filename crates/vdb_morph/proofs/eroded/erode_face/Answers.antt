@@ -1,11 +1,4 @@
-use Rattle.std.proofs.Common.{◌≡◌, refl, subst, sym, ◌∙◌, false}
-use Rattle.vdb_coord.specs.Blocks.{vdb}
-use Rattle.vdb_coord.specs.Space.{is_inside}
-use Rattle.vdb_coord.specs.declared.Coord.{Coord}
-use Rattle.vdb_coord.specs.declared.face.Face.{Face}
-use Rattle.vdb_tree.specs.Field.{Field}
-use Rattle.vdb_tree.specs.Layout.{field_of}
-use Rattle.vdb_morph.specs.internal.Behind.{is_behind}
+use Rattle.vdb_morph.proofs.Common.{◌≡◌, refl, subst, sym, ◌∙◌, false, vdb, is_inside, Coord, Face, Field, field_of, is_behind}
 use Rattle.vdb_morph.proofs.Eroding.{bounds_within}
 use Rattle.vdb_morph.proofs.Settling.{settled_full, settled_layer, settled_no_layer, settled_nowhere}
 use Rattle.vdb_morph.proofs.eroded.erode_face.Goals as goal

@@ -1,7 +1,4 @@
-use Rattle.vdb_coord.specs.Blocks.{vdb}
-use Rattle.vdb_tree.specs.Field.{Field}
-use Rattle.vdb_tree.specs.Layout.{cell_at, field_of}
-use Rattle.vdb_morph.specs.internal.Iterating.{is_around}
+use Rattle.vdb_morph.proofs.Common.{vdb, Field, cell_at, field_of, is_around}
 use Rattle.vdb_morph.proofs.Eroding.{bounds_within, erodes_taken, is_around_part, taken_eroded}
 use Rattle.vdb_morph.proofs.eroded.erode_leaf.Goals as goal
 

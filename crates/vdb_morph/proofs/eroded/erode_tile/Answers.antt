@@ -1,8 +1,4 @@
-use Rattle.vdb_coord.specs.Blocks.{vdb}
-use Rattle.vdb_tree.specs.Field.{Field}
-use Rattle.vdb_tree.specs.Layout.{cell_at, field_of}
-use Rattle.vdb_walk.proofs.Cuts.{same_boxes}
-use Rattle.vdb_morph.specs.internal.Iterating.{is_around}
+use Rattle.vdb_morph.proofs.Common.{vdb, Field, cell_at, field_of, same_boxes, is_around}
 use Rattle.vdb_morph.proofs.Eroding.{bounds_within, erodes_taken, is_around_block, taken_eroded}
 use Rattle.vdb_morph.proofs.eroded.erode_tile.Goals as goal
 

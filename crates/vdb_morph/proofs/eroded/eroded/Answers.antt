@@ -1,8 +1,4 @@
-use Rattle.std.proofs.Common.{◌≡◌, ap, arith, refl, rules, ◌∙◌, Some, true}
-use Rattle.vdb_coord.specs.Blocks.{vdb}
-use Rattle.vdb_coord.specs.Space.{Box, everywhere}
-use Rattle.vdb_tree.specs.Layout.{cell_at, field_of}
-use Rattle.vdb_tree.proofs.Sizes.{internal_small, leaf_small}
+use Rattle.vdb_morph.proofs.Common.{◌≡◌, ap, arith, refl, rules, ◌∙◌, Some, true, vdb, Box, everywhere, cell_at, field_of, internal_small, leaf_small}
 use Rattle.vdb_morph.proofs.TreeSizes.{tree_small}
 use Rattle.vdb_morph.proofs.Eroding.{part_within, underway_all, underway_first, underway_more}
 use Rattle.vdb_morph.proofs.eroded.eroded.Goals as goal

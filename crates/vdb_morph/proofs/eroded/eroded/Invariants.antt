@@ -1,9 +1,4 @@
-use Rattle.std.proofs.Common.{◌≡◌}
-use Rattle.vdb_coord.specs.Blocks.{vdb}
-use Rattle.vdb_coord.specs.Space.{everywhere}
-use Rattle.vdb_tree.specs.Layout.{field_of}
-use Rattle.vdb_tree.specs.Parts.{IsWalk, left_count}
-use Rattle.vdb_tree.specs.declared.queries.parts.Skip.TheVariants.{Inactive}
+use Rattle.vdb_morph.proofs.Common.{◌≡◌, vdb, everywhere, field_of, IsWalk, left_count, Inactive}
 use Rattle.vdb_morph.proofs.Eroding.{IsUnderway}
 use Rattle.vdb_morph.proofs.eroded.eroded.Given as goal
 

@@ -1,9 +1,5 @@
 -- The neighbour of a corner at the face lies in the block behind it.
-use Rattle.std.proofs.Common.{◌≡◌, ◌∙◌, ap}
-use Rattle.vdb_coord.specs.Space.{Box}
-use Rattle.vdb_coord.specs.Blocks.{block_around, vdb}
-use Rattle.vdb_coord.specs.declared.Level.TheVariants.{Leaf}
-use Rattle.vdb_morph.specs.internal.Behind.{layer}
+use Rattle.vdb_morph.proofs.Common.{◌≡◌, ◌∙◌, ap, Box, block_around, vdb, Leaf, layer}
 use Rattle.vdb_morph.proofs.Crossings.{block_nowhere, block_there, vdb_bits}
 use Rattle.vdb_morph.proofs.faces.block_behind.Goals as goal
 

@@ -1,5 +1,4 @@
-use Rattle.vdb_coord.specs.Blocks.{vdb}
-use Rattle.vdb_tree.specs.Layout.{field_of}
+use Rattle.vdb_morph.proofs.Common.{vdb, field_of}
 use Rattle.vdb_morph.proofs.IterationLaws.{dilated_outcome}
 use Rattle.vdb_morph.proofs.iterations.dilate.Goals as goal
 

@@ -1,8 +1,4 @@
-use Rattle.std.proofs.Common.{◌≡◌, ◌∙◌, ap, arith, ℕ, Bool}
-use Rattle.vdb_coord.specs.Blocks.{vdb}
-use Rattle.vdb_tree.specs.Field.{dilate, iterations}
-use Rattle.vdb_tree.specs.Layout.{Layout, field_of}
-use Rattle.vdb_morph.specs.internal.Iterating.{topology}
+use Rattle.vdb_morph.proofs.Common.{◌≡◌, ◌∙◌, ap, arith, ℕ, Bool, vdb, dilate, iterations, Layout, field_of, topology}
 use Rattle.vdb_morph.proofs.IterationLaws.{dilated_more, of_ok}
 use Rattle.vdb_morph.proofs.iterations.dilated_states.Goals as goal
 

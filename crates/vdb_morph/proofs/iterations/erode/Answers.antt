@@ -1,6 +1,4 @@
-use Rattle.std.proofs.Common.{refl}
-use Rattle.vdb_coord.specs.Blocks.{vdb}
-use Rattle.vdb_tree.specs.Layout.{field_of}
+use Rattle.vdb_morph.proofs.Common.{refl, vdb, field_of}
 use Rattle.vdb_tree.proofs.Uniform.{exact_by}
 use Rattle.vdb_morph.proofs.IterationLaws.{eroded_few, eroded_outcome}
 use Rattle.vdb_morph.proofs.iterations.erode.Goals as goal

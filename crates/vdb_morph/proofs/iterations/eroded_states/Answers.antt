@@ -1,8 +1,4 @@
-use Rattle.std.proofs.Common.{◌≡◌, ◌∙◌, ap, arith, ℕ, Bool}
-use Rattle.vdb_coord.specs.Blocks.{vdb}
-use Rattle.vdb_tree.specs.Field.{erode, iterations}
-use Rattle.vdb_tree.specs.Layout.{Layout, field_of}
-use Rattle.vdb_morph.specs.internal.Iterating.{topology}
+use Rattle.vdb_morph.proofs.Common.{◌≡◌, ◌∙◌, ap, arith, ℕ, Bool, vdb, erode, iterations, Layout, field_of, topology}
 use Rattle.vdb_morph.proofs.IterationLaws.{eroded_more, of_ok}
 use Rattle.vdb_morph.proofs.iterations.eroded_states.Goals as goal
 

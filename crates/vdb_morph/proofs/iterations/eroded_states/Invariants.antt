@@ -1,8 +1,4 @@
-use Rattle.std.proofs.Common.{◌≡◌}
-use Rattle.vdb_coord.specs.Blocks.{vdb}
-use Rattle.vdb_tree.specs.Field.{erode, iterations}
-use Rattle.vdb_tree.specs.Layout.{field_of}
-use Rattle.vdb_morph.specs.internal.Iterating.{topology}
+use Rattle.vdb_morph.proofs.Common.{◌≡◌, vdb, erode, iterations, field_of, topology}
 use Rattle.vdb_morph.proofs.iterations.eroded_states.Given as goal
 
 -- the iterations made so far

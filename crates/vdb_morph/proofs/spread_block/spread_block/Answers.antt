@@ -1,13 +1,5 @@
 -- The block itself, and then each face.
-use Rattle.std.proofs.Common.{◌≡◌, ap, ◌∙◌, refl, sym, ℕ, take, arith, rules}
-use Rattle.std.specs.List.{list_any}
-use Rattle.vdb_coord.specs.Blocks.{vdb}
-use Rattle.vdb_coord.specs.Faces.{faces}
-use Rattle.vdb_coord.specs.declared.face.Face.TheVariants.{MinusX}
-use Rattle.vdb_coord.proofs.Meeting.{fits_everywhere}
-use Rattle.vdb_tree.specs.Layout.{cell_at, field_of}
-use Rattle.vdb_morph.specs.internal.Spreading.{is_over}
-use Rattle.vdb_morph.specs.internal.Iterating.{with_active}
+use Rattle.vdb_morph.proofs.Common.{◌≡◌, ap, ◌∙◌, refl, sym, ℕ, take, arith, rules, list_any, vdb, faces, MinusX, fits_everywhere, cell_at, field_of, is_over, with_active}
 use Rattle.vdb_morph.proofs.Activating.{active_further, active_nowhere}
 use Rattle.vdb_morph.proofs.Crossings.{vdb_bits}
 use Rattle.vdb_morph.proofs.Spreads.{words_spread}

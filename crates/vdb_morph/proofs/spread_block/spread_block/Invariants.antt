@@ -1,10 +1,4 @@
-use Rattle.std.proofs.Common.{◌≡◌, take}
-use Rattle.std.specs.List.{list_any}
-use Rattle.vdb_coord.specs.Blocks.{vdb}
-use Rattle.vdb_coord.specs.Faces.{faces}
-use Rattle.vdb_tree.specs.Layout.{field_of}
-use Rattle.vdb_morph.specs.internal.Spreading.{is_over}
-use Rattle.vdb_morph.specs.internal.Iterating.{with_active}
+use Rattle.vdb_morph.proofs.Common.{◌≡◌, take, list_any, vdb, faces, field_of, is_over, with_active}
 use Rattle.vdb_morph.proofs.spread_block.spread_block.Given as goal
 
 abbrev pub invariant-loop-face : goal.invariant-loop-face

@@ -1,10 +1,5 @@
 -- The voxels over a face, by the mask of the block behind the opposite face.
-use Rattle.std.proofs.Common.{ap, ◌∙◌, refl, sym}
-use Rattle.std.proofs.Math.Path.{fun_ext}
-use Rattle.vdb_coord.specs.Blocks.{vdb}
-use Rattle.vdb_tree.specs.Layout.{cell_at, field_of}
-use Rattle.vdb_morph.specs.internal.Behind.{opposite}
-use Rattle.vdb_morph.specs.internal.Iterating.{with_active}
+use Rattle.vdb_morph.proofs.Common.{ap, ◌∙◌, refl, sym, fun_ext, vdb, cell_at, field_of, opposite, with_active}
 use Rattle.vdb_morph.proofs.Activating.{active_nowhere}
 use Rattle.vdb_morph.proofs.Spreads.{over_beyond, over_is, over_off}
 use Rattle.vdb_morph.proofs.spread_block.spread_over.Goals as goal

@@ -1,6 +1,5 @@
 -- All cells of the tile are the one at p.
-use Rattle.std.proofs.Common.{◌∙◌, refl, sym}
-use Rattle.vdb_coord.specs.Blocks.{vdb}
+use Rattle.vdb_morph.proofs.Common.{◌∙◌, refl, sym, vdb}
 use Rattle.vdb_morph.proofs.BlockStates.{around_number, same_truths}
 use Rattle.vdb_morph.proofs.states.is_tile.Goals as goal
 

@@ -1,8 +1,6 @@
 -- The marks join the states of a leaf.
-use Rattle.std.proofs.Common.{◌∙◌, ◌||◌, Bool, List, ap, is_some, sym}
-use Rattle.vdb_coord.specs.Blocks.{vdb}
-use Rattle.vdb_mask.specs.Mask.{is_on}
-use Rattle.vdb_tree.specs.Layout.{cell_at}
+use Rattle.vdb_morph.proofs.Common.{◌∙◌, ◌||◌, Bool, List, ap, sym, vdb, is_on, cell_at}
+use Rattle.std.proofs.Common.{is_some}
 use Rattle.vdb_morph.proofs.Marks.{marked_leaf}
 use Rattle.vdb_morph.proofs.states.mark.Goals as goal
 

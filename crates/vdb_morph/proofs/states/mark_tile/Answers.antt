@@ -1,8 +1,5 @@
 -- An active tile stays, and an inactive one becomes a leaf with the marks.
-use Rattle.std.proofs.Common.{◌∙◌, sym}
-use Rattle.vdb_coord.specs.Blocks.{vdb}
-use Rattle.vdb_tree.specs.Layout.{cell_at, field_of}
-use Rattle.vdb_tree.specs.Leaves.{with_leaf}
+use Rattle.vdb_morph.proofs.Common.{◌∙◌, sym, vdb, cell_at, field_of, with_leaf}
 use Rattle.vdb_morph.proofs.Marks.{changed_if_ok, marked_active, marked_inactive}
 use Rattle.vdb_morph.proofs.states.mark_tile.Goals as goal
 

@@ -1,9 +1,5 @@
 -- A leaf of the states is written, or its tile exists already.
-use Rattle.std.proofs.Common.{◌∙◌, refl}
-use Rattle.vdb_coord.specs.Blocks.{vdb}
-use Rattle.vdb_node.specs.Nodes.{entry_count}
-use Rattle.vdb_tree.specs.Layout.{cell_at, field_of}
-use Rattle.vdb_tree.specs.Leaves.{with_leaf}
+use Rattle.vdb_morph.proofs.Common.{◌∙◌, refl, vdb, entry_count, cell_at, field_of, with_leaf}
 use Rattle.vdb_morph.proofs.BlockStates.{false_values, leaf_taken, tile_taken}
 use Rattle.vdb_morph.proofs.Marks.{changed_if_ok}
 use Rattle.vdb_morph.proofs.states.put_states.Goals as goal

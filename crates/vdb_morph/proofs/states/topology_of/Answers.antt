@@ -1,8 +1,5 @@
 -- The states join an empty tree.
-use Rattle.std.proofs.Common.{◌∙◌, Bool, ap}
-use Rattle.vdb_coord.specs.Blocks.{vdb}
-use Rattle.vdb_tree.specs.Field.{Field, unite}
-use Rattle.vdb_tree.specs.Layout.{field_of}
+use Rattle.vdb_morph.proofs.Common.{◌∙◌, Bool, ap, vdb, Field, unite, field_of}
 use Rattle.vdb_morph.proofs.Marks.{united_new}
 use Rattle.vdb_morph.proofs.states.topology_of.Goals as goal
 

@@ -1,8 +1,4 @@
-use Rattle.std.proofs.Common.{◌≤◌, ◌∙◌, arith}
-use Rattle.vdb_coord.specs.Blocks.{offset, vdb}
-use Rattle.vdb_coord.specs.declared.Level.TheVariants.{Leaf}
-use Rattle.vdb_mask.specs.Mask.{is_on}
-use Rattle.vdb_morph.specs.internal.Beside.{bit_beside}
+use Rattle.vdb_morph.proofs.Common.{◌≤◌, ◌∙◌, arith, offset, vdb, Leaf, is_on, bit_beside}
 use Rattle.vdb_morph.proofs.BesideStates.{beside_is, offset_low}
 use Rattle.vdb_morph.proofs.LeafWords.{more_below}
 use Rattle.vdb_morph.proofs.words.beside.Goals as goal

@@ -1,6 +1,4 @@
-use Rattle.std.proofs.Common.{◌≡◌, ◌*◌, ◌<◌, ℕ}
-use Rattle.vdb_mask.specs.Mask.{is_on}
-use Rattle.vdb_morph.specs.internal.Beside.{bit_beside}
+use Rattle.vdb_morph.proofs.Common.{◌≡◌, ◌*◌, ◌<◌, ℕ, is_on, bit_beside}
 use Rattle.vdb_morph.proofs.words.beside.Given as goal
 
 abbrev pub invariant-loop-k : goal.invariant-loop-k

@@ -1,7 +1,4 @@
-use Rattle.std.proofs.Common.{◌≤◌, ◌∙◌, arith}
-use Rattle.vdb_coord.specs.Blocks.{offset, vdb}
-use Rattle.vdb_coord.specs.declared.Level.TheVariants.{Leaf}
-use Rattle.vdb_morph.specs.internal.Beside.{is_on_beside}
+use Rattle.vdb_morph.proofs.Common.{◌≤◌, ◌∙◌, arith, offset, vdb, Leaf, is_on_beside}
 use Rattle.vdb_morph.proofs.BesideStates.{beside_any_is, offset_low}
 use Rattle.vdb_morph.proofs.LeafWords.{more_below}
 use Rattle.vdb_morph.proofs.words.beside_any.Goals as goal

@@ -1,6 +1,4 @@
-use Rattle.std.proofs.Common.{◌≡◌, ◌*◌, ◌<◌, ℕ}
-use Rattle.vdb_mask.specs.Mask.{is_on}
-use Rattle.vdb_morph.specs.internal.Beside.{is_on_beside}
+use Rattle.vdb_morph.proofs.Common.{◌≡◌, ◌*◌, ◌<◌, ℕ, is_on, is_on_beside}
 use Rattle.vdb_morph.proofs.words.beside_any.Given as goal
 
 abbrev pub invariant-loop-k : goal.invariant-loop-k

@@ -1,6 +1,4 @@
-use Rattle.std.proofs.Common.{◌≡◌, ◌+◌, ◌*◌, ◌<◌, ℕ, [], sym, ◌∙◌, arith}
-use Rattle.vdb_mask.specs.Mask.{has_bit, is_on}
-use Rattle.vdb_node.specs.Beside.{bit_after, bit_before}
+use Rattle.vdb_morph.proofs.Common.{◌≡◌, ◌+◌, ◌*◌, ◌<◌, ℕ, [], sym, ◌∙◌, arith, has_bit, is_on, bit_after, bit_before}
 use Rattle.vdb_morph.proofs.LeafWords.{after_y_in_word, after_z_in_word, before_y_in_word, before_z_in_word, no_word, six_words, word_after, word_before}
 use Rattle.vdb_morph.proofs.words.word_beside_any.Goals.{then-k-eq0, else-k-eq0, then-k-eq7, else-k-eq7}
 use Rattle.vdb_morph.proofs.words.word_beside_any.Goals as goal

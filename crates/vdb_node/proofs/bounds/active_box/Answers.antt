@@ -1,5 +1,4 @@
-use Rattle.std.proofs.Common.{◌/◌, ◌%◌, arith}
-use Rattle.vdb_mask.specs.Mask.{is_on}
+use Rattle.vdb_node.proofs.Common.{◌/◌, ◌%◌, arith, is_on}
 use Rattle.vdb_node.proofs.Spans.{none_projected, projects_through, span_divided, span_projected}
 use Rattle.vdb_node.proofs.bounds.active_box.Goals as goal
 

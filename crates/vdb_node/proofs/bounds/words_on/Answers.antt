@@ -1,5 +1,4 @@
-use Rattle.std.proofs.Common.{arith}
-use Rattle.vdb_mask.specs.Mask.{is_on}
+use Rattle.vdb_node.proofs.Common.{arith, is_on}
 use Rattle.vdb_node.proofs.Spans.{planes_more, planes_same}
 use Rattle.vdb_node.proofs.bounds.words_on.Goals.{then-word-ne0, else-word-ne0}
 use Rattle.vdb_node.proofs.bounds.words_on.Goals as goal

@@ -1,6 +1,4 @@
-use Rattle.std.proofs.Common.{◌*◌, ◌/◌}
-use Rattle.vdb_mask.specs.Mask.{is_on}
-use Rattle.vdb_node.specs.Bounds.{Projects}
+use Rattle.vdb_node.proofs.Common.{◌*◌, ◌/◌, is_on, Projects}
 use Rattle.vdb_node.proofs.bounds.words_on.Given as goal
 
 abbrev pub invariant-loop-k : goal.invariant-loop-k

@@ -1,7 +1,5 @@
-use Rattle.std.proofs.Common.{◌≡◌, ◌<◌, ◌≤◌, ℕ, get_or}
-use Rattle.std.specs.Prelude.{Some}
+use Rattle.vdb_node.proofs.Common.{◌≡◌, ◌<◌, ◌≤◌, ℕ, get_or, Some, blended}
 use Rattle.vdb_node.proofs.slices.blend_each.Given as goal
-use Rattle.vdb_value.specs.Blends.{blended}
 
 abbrev pub invariant-values : goal.invariant-values
 invariant-values g l =

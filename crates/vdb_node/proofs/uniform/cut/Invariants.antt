@@ -1,5 +1,4 @@
-use Rattle.std.proofs.Common.{◌≡◌, ◌*◌, ◌<◌, ◌≤◌, ℕ, false}
-use Rattle.vdb_mask.specs.Mask.{is_on}
+use Rattle.vdb_node.proofs.Common.{◌≡◌, ◌*◌, ◌<◌, ◌≤◌, ℕ, false, is_on}
 use Rattle.vdb_node.specs.Nodes.{IsOffFrom}
 use Rattle.vdb_node.proofs.uniform.cut.Given as goal
 

@@ -1,7 +1,5 @@
-use Rattle.std.proofs.Common.{◌≡◌, ℕ, Bool, true, false, List, refl, inl, inr}
-use Rattle.std.specs.Prelude.{not}
-use Rattle.std.proofs.lemmas.Bool.{cases_Bool}
-use Rattle.vdb_mask.specs.Mask.{is_on, is_value}
+use Rattle.vdb_node.proofs.Common.{◌≡◌, ℕ, Bool, true, false, List, refl, inl, inr, not, cases_Bool, is_on}
+use Rattle.vdb_mask.specs.Mask.{is_value}
 use Rattle.vdb_node.proofs.Entries.{or_false_r}
 use Rattle.vdb_node.proofs.uniform.next_marked.Goals as goal
 

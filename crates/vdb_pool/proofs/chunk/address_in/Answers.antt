@@ -1,6 +1,4 @@
-use Rattle.std.proofs.Common.{◌≡◌, ◌/◌, ◌%◌, get_or, arith, sym, subst, ◌∙◌}
-use Rattle.std.proofs.Math.Nat.{mod-lt}
-use Rattle.std.proofs.lemmas.Nat.{div-add-mod'}
+use Rattle.vdb_pool.proofs.Common.{◌≡◌, ◌/◌, ◌%◌, get_or, arith, sym, subst, ◌∙◌, mod-lt, div-add-mod'}
 use Rattle.vdb_pool.proofs.Rows.{some_of, rows_at, chunk_of, whole_at}
 use Rattle.vdb_pool.proofs.chunk.address_in.Goals as goal
 

@@ -1,5 +1,4 @@
-use Rattle.std.proofs.Common.{arith}
-use Rattle.std.proofs.lemmas.Nat.{div-add-mod'}
+use Rattle.vdb_pool.proofs.Common.{arith, div-add-mod'}
 use Rattle.vdb_pool.proofs.Rows.{quotient_is}
 use Rattle.vdb_pool.proofs.chunk.chunk_and_index.Goals as goal
 

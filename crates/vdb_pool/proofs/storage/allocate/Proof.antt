@@ -1,49 +1,25 @@
 -- `allocate` turns a new block into a row of free places, and keeps the right to give it back. Assumes `Logic`.
-use Rattle.std.proofs.Common.{◌≡◌, ℕ, ◌*◌, ◌<◌, ◌^◌, List, [], ◌∷◌, ◌++◌, true, false, IfOk, Ok, Err, refl, sym, ap, subst, arith, lit<, w64}
-use Rattle.std.specs.Mem.{type_size}
+use Rattle.vdb_pool.proofs.Common.{◌≡◌, ℕ, ◌*◌, ◌<◌, ◌^◌, List, [], ◌∷◌, ◌++◌, refl, sym, ap, subst, arith, w64, type_size, Fn, ty_array, inst_fn, Val, vptr, vint, vstruct, vcons, vnil, SProp, emp, ftrue, flft, Incl-trans, align, capped, capped_fits, Env, WpFn, fact, fact_i, ◌⊑◌, tables, Item, ‵, raw, ◌⊛◌, later, await, prop, at_ret, ◌$◌, ◌∵◌, !, qed, by, move, drop, use0, use1, use2, split, join, regoal, fsplit, fjoin, feq_i, flt_i, whole, agg, stop, fld, of_opd, bin, size_word, align_word, and_then, no_more, first, exec, returns, enter, alloc_all, pass_all, free_all, look_at, get, get_in, sets, sets_last, is, env, yes, Is, RattleType, owns, Ptr, block_ptr, types_at, nothing, heard, Struct, Tuple, Clauses, Ended, framed, Stays, stay_dropped, walk_of, Goes-dropped, Al, El, R, elτ, uncapped, block_ty, block_size, block_align, proved_at, leaves, as_written, word-Good, after, storage_owns, row_from}
+use Rattle.std.proofs.Common.{true, false, IfOk, Ok, Err, lit<}
 use Rattle.std.specs.Vec.Ownership.{FitsInBlock}
-use mir.Syntax.{Fn, Body, ty_array}
-use mir.MapTy.{inst_fn}
-use mir.Val.{Val, vptr, vint, vstruct, vcons, vnil}
-use base.Logic.{SProp, emp}
-use base.Fml.{ftrue, flft, Incl-trans}
-use prog.Memory.{align, capped}
-use prog.Capped.{capped_fits}
-use prog.Wp.{Env, Wp, WpFn, after_seq, at_return}
-use contract.Monad.{fact, fact_i}
-use contract.BorrowLft.{◌⊑◌}
-use contract.Running.{tables}
-use types.Kit.{Item, ‵, raw, ◌⊛◌, later, await, prop, any_q, Post as After, at_ret, ◌$◌, ◌∵◌, !, qed, by, move, drop, use0, use1, use2, use3, split, join, regoal, fsplit, fjoin, feq_i, flt_i}
+use mir.Syntax.{Body}
+use prog.Wp.{Wp, after_seq, at_return}
+use types.Kit.{any_q, Post as After, use3}
 use types.Match.{live, vrt, in_variant}
-use types.Part.{whole, agg}
-use types.Run.{stop, fld, lit, of_opd, bin, size_word, align_word, switches_on, and_then, no_more, first, exec, returns, enter}
-use types.ByLocal.{alloc_all, pass_all, free_all, look_at, get, get_in, get_tag, sets, sets_last, lands_as, is, env}
-use denote.Exit.{yes}
-use denote.Laws.{Is}
+use types.Run.{lit, switches_on}
+use types.ByLocal.{get_tag, lands_as}
 use denote.Param.{layout}
-use denote.RattleType.{RattleType, owns}
-use denote.RawPtr.{Ptr, block_ptr}
-use denote.Signature.{types_at}
-use denote.Steps.{nothing, heard, owned}
+use denote.Steps.{owned}
 use denote.Struct.Declared as Declared
-use denote.Struct.Struct.{Struct, Struct-Makes}
-use denote.Struct.Tuple.{Tuple}
+use denote.Struct.Struct.{Struct-Makes}
 use denote.Triple.Call.{calls_at}
-use denote.Triple.Clauses.{Clauses, Ended}
-use denote.Triple.Table.{framed}
-use denote.Triple.Walked.{Stays, stay_dropped, walk_of, Goes-dropped}
-use Rattle.core.proofs.alloc.Calls.{Al, Answer-typed, Takes, at_takes, Answered, Takes-goes, Takes-gives, answers}
-use Rattle.core.proofs.mem.Param.{El, R, elτ}
-use Rattle.core.proofs.slots.Leases.{uncapped, block_ty, block_size, block_align, args, P}
+use Rattle.core.proofs.alloc.Calls.{Answer-typed, Takes, at_takes, Answered, Takes-goes, Takes-gives, answers}
+use Rattle.core.proofs.slots.Leases.{args, P}
 use Rattle.core.specs.contracts.alloc.AllocError as refusal
 use Rattle.core.specs.contracts.result.Result as outcome
-use Rattle.std.proofs.raw_atomic.Walks.{proved_at, leaves}
-use Rattle.std_alloc.proofs.RawLayout.{as_written}
-use Rattle.std_alloc.proofs.RcSteps.{Good, word-Good, first_Good}
+use Rattle.std_alloc.proofs.RcSteps.{Good, first_Good}
 use Rattle.std_alloc.proofs.ResultValues.{ok_of, err_of}
-use Rattle.std_alloc.proofs.VecSteps.Shapes.{after, head, arm_body}
-use Rattle.vdb_pool.specs.internal.Ownership.{storage_owns}
-use Rattle.vdb_pool.specs.internal.Rows.{row_from}
+use Rattle.std_alloc.proofs.VecSteps.Shapes.{head, arm_body}
 use Rattle.vdb_pool.proofs.Places.{of_room}
 use Rattle.vdb_pool.proofs.Walks.{slot, Addr, Store, Mark, addr_val, addr_made, mark_val, mark_made, three_val, three_made}
 use Rattle.vdb_pool.specs.contracts.storage.Block as block

@@ -1,41 +1,14 @@
 -- `deallocate` turns free places into a block again, and hands it back with the allocator's token. Assumes `Logic`.
-use Rattle.std.proofs.Common.{◌≡◌, ℕ, ◌*◌, ◌<◌, ◌^◌, List, [], ◌∷◌, ◌++◌, refl, sym, ap, subst, ◌∙◌, arith, w64}
-use Rattle.std.specs.Mem.{type_size}
+use Rattle.vdb_pool.proofs.Common.{◌≡◌, ℕ, ◌*◌, ◌<◌, ◌^◌, List, [], ◌∷◌, ◌++◌, refl, sym, ap, subst, ◌∙◌, arith, w64, type_size, Fn, ty_array, inst_fn, Val, vptr, vint, vunit, SProp, never, id⊢, ftrue, froom, flft, Incl-trans, align, capped, capped_fits, Env, WpFn, fact, ◌⊑◌, tables, Item, ‵, raw, ◌⊛◌, later, await, prop, at_ret, ◌$◌, ◌∵◌, !, qed, by, move, keep, drop, use1, split, join, group, rewrite, regoal, fsplit, fjoin, feq_i, feq_l, flt_l, whole, sub, stop, fld, unit_lit, of_opd, bin, size_word, align_word, and_then, no_more, first, blocks, exec, returns, enter, alloc_all, pass_all, free_all, look_at, get, get_in, sets, is, env, yes, no, owns, Ptr, block_ptr, ptr_val, in_block, in_a_block, types_at, nothing, heard, Clauses, Ended, framed, Stays, stay_dropped, walk_of, Goes-dropped, Al, Goes-blank, El, R, elτ, uncapped, block_ty, block_size, block_align, proved_at, leaves, as_raw, after, word-Good, storage_owns, row_from}
 use lib.Dec.{T as Holds}
 use mir.Raw.{raw as bare}
-use mir.Syntax.{Fn, ty_unit, ty_array}
-use mir.MapTy.{inst_fn}
-use mir.Val.{Val, vptr, vint, vunit, has_ty, WT}
-use base.Logic.{SProp, never, id⊢}
-use base.Fml.{ftrue, froom, flft, Incl-trans}
-use prog.Memory.{align, capped}
-use prog.Capped.{capped_fits}
-use prog.Wp.{Env, WpFn}
-use contract.Monad.{fact}
-use contract.BorrowLft.{◌⊑◌}
-use contract.Running.{tables}
-use types.Kit.{Item, ‵, raw, ◌⊛◌, given, later, await, learn, prop, at_ret, ◌$◌, ◌∵◌, !, qed, by, move, keep, drop, use1, split, join, group, rewrite, regoal, fsplit, fjoin, feq_i, feq_l, flt_l}
-use types.Part.{whole, sub}
-use types.Run.{stop, fld, unit_lit, of_opd, bin, size_word, align_word, and_then, no_more, first, blocks, exec, returns, enter}
-use types.ByLocal.{alloc_all, pass_all, free_all, look_at, get, get_in, sets, is, lands_last, env}
-use denote.Exit.{yes, no}
-use denote.RattleType.{owns}
-use denote.RawPtr.{Ptr, block_ptr, ptr_val, in_block, in_a_block}
-use denote.Signature.{types_at}
-use denote.Steps.{nothing, heard}
+use mir.Syntax.{ty_unit}
+use mir.Val.{has_ty, WT}
+use types.Kit.{given, learn}
+use types.ByLocal.{lands_last}
 use denote.Triple.Call.{calls_at_last}
-use denote.Triple.Clauses.{Clauses, Ended}
-use denote.Triple.Table.{framed}
-use denote.Triple.Walked.{Stays, stay_dropped, walk_of, Goes-dropped}
-use Rattle.core.proofs.alloc.Calls.{Al, token, Gives, at_gives, Gives-goes, Gives-Gives, Goes-blank}
-use Rattle.core.proofs.mem.Param.{El, R, elτ}
-use Rattle.core.proofs.slots.Leases.{uncapped, block_ty, block_size, block_align, args}
-use Rattle.std.proofs.raw_atomic.Walks.{proved_at, leaves}
-use Rattle.std_alloc.proofs.RawLayout.{as_raw}
-use Rattle.std_alloc.proofs.VecSteps.Shapes.{after}
-use Rattle.std_alloc.proofs.RcSteps.{word-Good}
-use Rattle.vdb_pool.specs.internal.Ownership.{storage_owns}
-use Rattle.vdb_pool.specs.internal.Rows.{row_from}
+use Rattle.core.proofs.alloc.Calls.{token, Gives, at_gives, Gives-goes, Gives-Gives}
+use Rattle.core.proofs.slots.Leases.{args}
 use Rattle.vdb_pool.proofs.Places.{to_room}
 use Rattle.vdb_pool.proofs.Walks.{slot, addr_val, addr_told, mark_val, mark_told}
 use Rattle.vdb_pool.specs.contracts.storage.deallocate as F

@@ -1,24 +1,5 @@
 -- `place_bytes` reads the word of a type's bytes. Assumes `Logic`.
-use Rattle.std.proofs.Common.{◌≡◌, ℕ, ◌^◌, ◌<◌, List, [], ◌∷◌, refl, w64}
-use Rattle.std.specs.Mem.{type_size}
-use mir.Syntax.{Fn}
-use mir.MapTy.{inst_fn}
-use mir.Val.{Val, vint}
-use base.Logic.{SProp, emp}
-use base.Fml.{ftrue}
-use prog.Capped.{capped_fits}
-use prog.Memory.{capped}
-use contract.Monad.{fact, fact_i}
-use contract.Running.{tables}
-use types.Kit.{‵, raw, ◌⊛◌, ◌$◌, ◌∵◌, !, qed, by, keep, use0, split, fjoin, feq_i, flt_i}
-use types.Run.{size_word, of_opd, returns, enter}
-use types.ByLocal.{alloc_all, pass_all, free_all, look_at, sets}
-use denote.Steps.{nothing}
-use denote.Triple.Clauses.{Clauses, Ended}
-use denote.Triple.Entry.{alive}
-use denote.Triple.Walked.{walk_of}
-use Rattle.core.proofs.mem.Param.{El, R, args}
-use Rattle.std.proofs.raw_atomic.Walks.{proved_at, leaves}
+use Rattle.vdb_pool.proofs.Common.{◌≡◌, ℕ, ◌^◌, ◌<◌, List, [], ◌∷◌, refl, w64, type_size, Fn, inst_fn, Val, vint, SProp, emp, ftrue, capped_fits, capped, fact, fact_i, tables, ‵, raw, ◌⊛◌, ◌$◌, ◌∵◌, !, qed, by, keep, use0, split, fjoin, feq_i, flt_i, size_word, of_opd, returns, enter, alloc_all, pass_all, free_all, look_at, sets, nothing, Clauses, Ended, alive, walk_of, El, R, args, proved_at, leaves}
 use Rattle.vdb_pool.specs.contracts.storage.place_bytes as F
 use Rattle.vdb_pool.specs.contracts.storage.place_bytes.Key.{name as #self}
 use Rattle.vdb_pool.proofs.storage.place_bytes.Statement.{statement}

@@ -1,10 +1,4 @@
-use Rattle.std.proofs.Common.{◌∙◌, ap, sym, List}
-use Rattle.vdb_coord.specs.Blocks.{vdb}
-use Rattle.vdb_coord.specs.declared.face.Face.{Face}
-use Rattle.vdb_tree.specs.Field.{Field, fill, off}
-use Rattle.vdb_tree.specs.Layout.{cell_at, field_of}
-use Rattle.vdb_region.specs.internal.Beyond.{clear}
-use Rattle.vdb_region.specs.internal.Rings.{inner, outer}
+use Rattle.vdb_region.proofs.Common.{◌∙◌, ap, sym, List, vdb, Face, Field, fill, off, cell_at, field_of, clear, inner, outer}
 use Rattle.vdb_region.proofs.Clearing.{clear_next, clear_none, clear_skip}
 use Rattle.vdb_region.proofs.clip_box.+clear_ring.Goals as goal
 

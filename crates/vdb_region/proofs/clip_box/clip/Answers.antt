@@ -1,14 +1,5 @@
-use Rattle.std.proofs.Common.{◌∙◌, ◌≤◌, ap, arith, ℕ}
-use Rattle.vdb_coord.specs.Blocks.{vdb}
-use Rattle.vdb_coord.specs.Faces.{faces}
-use Rattle.vdb_coord.specs.Space.{everywhere}
-use Rattle.vdb_coord.specs.declared.Level.TheVariants.{Leaf, Lower, Upper}
-use Rattle.vdb_tree.specs.Field.{Field, clip, off}
-use Rattle.vdb_tree.specs.Layout.{cell_at, field_of}
-use Rattle.vdb_tree.specs.ConstantBlocks.{roots}
+use Rattle.vdb_region.proofs.Common.{◌∙◌, ◌≤◌, ap, arith, ℕ, vdb, faces, everywhere, Leaf, Lower, Upper, Field, clip, off, cell_at, field_of, roots, clear, hull}
 use Rattle.vdb_tree.proofs.Uniform.{exact_by}
-use Rattle.vdb_region.specs.internal.Beyond.{clear}
-use Rattle.vdb_region.specs.internal.Rings.{hull}
 use Rattle.vdb_region.proofs.Clearing.{clear_all, clip_within}
 use Rattle.vdb_region.proofs.clip_box.clip.Goals as goal
 

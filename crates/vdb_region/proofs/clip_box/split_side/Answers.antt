@@ -1,5 +1,4 @@
-use Rattle.vdb_coord.specs.Blocks.{vdb}
-use Rattle.vdb_coord.proofs.Boxes.{both}
+use Rattle.vdb_region.proofs.Common.{vdb, both}
 use Rattle.vdb_region.proofs.Hulls.{split_side}
 use Rattle.vdb_region.proofs.Sides.{some_map}
 use Rattle.vdb_region.proofs.clip_box.split_side.Goals as goal

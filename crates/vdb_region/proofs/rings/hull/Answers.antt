@@ -1,8 +1,4 @@
-use Rattle.std.proofs.Common.{◌≡◌, ◌∙◌, ap, sym, Some, None, Option}
-use Rattle.vdb_coord.specs.Blocks.{block_around}
-use Rattle.vdb_coord.specs.Space.{Box}
-use Rattle.vdb_coord.specs.declared.Coord.{Coord}
-use Rattle.vdb_coord.proofs.Boxes.{both}
+use Rattle.vdb_region.proofs.Common.{◌≡◌, ◌∙◌, ap, sym, Some, None, Option, block_around, Box, Coord, both}
 use Rattle.vdb_region.proofs.Sides.{made_hull}
 use Rattle.vdb_region.proofs.rings.hull.Goals as goal
 

@@ -1,9 +1,4 @@
-use Rattle.std.proofs.lemmas.Result.{err_from_is_err_and}
-use Rattle.vdb_coord.specs.Blocks.{vdb}
-use Rattle.vdb_tree.specs.Field.{as_field_of}
-use Rattle.vdb_tree.specs.Layout.{field_of}
-use Rattle.vdb_scene.specs.Grids.{grid_field}
-use Rattle.vdb_tree.specs.Field.{ruled}
+use Rattle.vdb_scene.proofs.Common.{err_from_is_err_and, vdb, as_field_of, field_of, grid_field, ruled}
 use Rattle.vdb_scene.proofs.TwoGrids.{states_refused}
 use Rattle.vdb_scene.proofs.grid_pair.combine.Goals as goal
 

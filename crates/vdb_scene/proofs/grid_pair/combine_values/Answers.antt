@@ -1,9 +1,4 @@
-use Rattle.std.proofs.Common.{◌≡◌, true, rules, Ok, Err}
-use Rattle.std.proofs.lemmas.Result.{err_from_is_err_and}
-use Rattle.vdb_coord.specs.Blocks.{vdb}
-use Rattle.vdb_tree.specs.Field.{as_field_of, combine, replace}
-use Rattle.vdb_tree.specs.Layout.{cell_at, field_of}
-use Rattle.vdb_scene.specs.Scalars.{kind_of, scalar_eq, scalar_greater, scalar_lesser, scalar_sum}
+use Rattle.vdb_scene.proofs.Common.{◌≡◌, true, rules, Ok, Err, err_from_is_err_and, vdb, as_field_of, combine, replace, cell_at, field_of, kind_of, scalar_eq, scalar_greater, scalar_lesser, scalar_sum}
 use Rattle.vdb_scene.proofs.TwoGrids.{as_outcome_of_combine, as_outcome_of_replace, as_sum_outcome_err, as_sum_outcome_ok, one_kind, sums_of, sum_gives, sum_refused, values_give, values_refused}
 use Rattle.vdb_scene.proofs.grid_pair.combine_values.Goals as goal
 

@@ -1,7 +1,4 @@
-use Rattle.std.proofs.Common.{not, ◌&&◌, ◌||◌}
-use Rattle.vdb_coord.specs.Blocks.{vdb}
-use Rattle.vdb_tree.specs.Layout.{field_of}
-use Rattle.vdb_scene.specs.Scalars.{scalar_eq}
+use Rattle.vdb_scene.proofs.Common.{not, ◌&&◌, ◌||◌, vdb, field_of, scalar_eq}
 use Rattle.vdb_scene.proofs.TwoGrids.{as_outcome_of_states}
 use Rattle.vdb_scene.proofs.grid_pair.set_states.Goals as goal
 

@@ -1,5 +1,4 @@
-use Rattle.std.proofs.Common.{sym, ◌∙◌}
-use Rattle.vdb_scene.specs.Scalars.{scalar_eq}
+use Rattle.vdb_scene.proofs.Common.{sym, ◌∙◌, scalar_eq}
 use Rattle.vdb_scene.proofs.Reports.{made_census}
 use Rattle.vdb_scene.proofs.grid_tree.census.Goals as goal
 

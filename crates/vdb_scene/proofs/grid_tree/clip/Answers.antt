@@ -1,7 +1,5 @@
-use Rattle.vdb_coord.specs.Blocks.{vdb}
-use Rattle.vdb_tree.specs.Layout.{field_of}
+use Rattle.vdb_scene.proofs.Common.{vdb, field_of, scalar_eq}
 use Rattle.vdb_tree.proofs.AsFieldOf.{as_outcome_of_clip}
-use Rattle.vdb_scene.specs.Scalars.{scalar_eq}
 use Rattle.vdb_scene.proofs.grid_tree.clip.Goals as goal
 
 pub returns-clause-outcome : goal.returns-clause-outcome

@@ -1,5 +1,4 @@
-use Rattle.std.proofs.Common.{sym, ◌∙◌, unwrap_or}
-use Rattle.vdb_coord.specs.Space.{everywhere}
+use Rattle.vdb_scene.proofs.Common.{sym, ◌∙◌, unwrap_or, everywhere}
 use Rattle.vdb_scene.proofs.Reports.{made_count}
 use Rattle.vdb_scene.proofs.grid_tree.count.Goals as goal
 

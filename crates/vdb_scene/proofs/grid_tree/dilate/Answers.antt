@@ -1,7 +1,4 @@
-use Rattle.vdb_coord.specs.Blocks.{vdb}
-use Rattle.vdb_tree.specs.Field.{dilate}
-use Rattle.vdb_tree.specs.Layout.{cell_at, field_of}
-use Rattle.vdb_scene.specs.Scalars.{scalar_eq}
+use Rattle.vdb_scene.proofs.Common.{vdb, dilate, cell_at, field_of, scalar_eq}
 use Rattle.vdb_scene.proofs.AsIterated.{as_growth_of_iterations, dilate_made}
 use Rattle.vdb_scene.proofs.grid_tree.dilate.Goals as goal
 

@@ -1,7 +1,4 @@
-use Rattle.vdb_coord.specs.Blocks.{vdb}
-use Rattle.vdb_tree.specs.Field.{erode}
-use Rattle.vdb_tree.specs.Layout.{cell_at, field_of}
-use Rattle.vdb_scene.specs.Scalars.{scalar_eq}
+use Rattle.vdb_scene.proofs.Common.{vdb, erode, cell_at, field_of, scalar_eq}
 use Rattle.vdb_scene.proofs.AsIterated.{as_outcome_of_iterations, erode_made}
 use Rattle.vdb_scene.proofs.grid_tree.erode.Goals as goal
 

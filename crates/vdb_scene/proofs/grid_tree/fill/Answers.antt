@@ -1,10 +1,5 @@
-use Rattle.std.proofs.Common.{subst}
-use Rattle.vdb_coord.specs.Blocks.{vdb}
-use Rattle.vdb_tree.specs.Field.{as_field_of, fill}
-use Rattle.vdb_tree.specs.Layout.{field_of}
-use Rattle.vdb_tree.specs.Outcome.{IsOutcome}
+use Rattle.vdb_scene.proofs.Common.{subst, vdb, as_field_of, fill, field_of, IsOutcome, scalar_eq}
 use Rattle.vdb_tree.proofs.AsFieldOf.{as_outcome_of_fill}
-use Rattle.vdb_scene.specs.Scalars.{scalar_eq}
 use Rattle.vdb_scene.proofs.grid_tree.fill.Goals as goal
 
 pub returns-clause-outcome : goal.returns-clause-outcome

@@ -1,13 +1,7 @@
-use Rattle.std.proofs.Common.{◌≡◌, ◌∙◌, arith, false, inl, inr, subst, sym}
-use Rattle.vdb_coord.specs.Blocks.{block_around, vdb}
-use Rattle.vdb_coord.specs.declared.Level.TheVariants.{Leaf}
-use Rattle.vdb_tree.specs.Field.{as_field_of, write, written}
-use Rattle.vdb_tree.specs.Layout.{cell_at, field_of}
-use Rattle.vdb_tree.specs.Outcome.{IsOutcome}
-use Rattle.vdb_tree.proofs.AsFieldOf.{as_field_of_constant, as_field_of_stands, as_outcome_of_write}
+use Rattle.vdb_scene.proofs.Common.{◌≡◌, ◌∙◌, arith, false, inl, inr, subst, sym, vdb, Leaf, as_field_of, write, written, cell_at, field_of, IsOutcome, as_field_of_constant, as_outcome_of_write, scalar_eq, write_takes_memory}
+use Rattle.vdb_coord.specs.Blocks.{block_around}
+use Rattle.vdb_tree.proofs.AsFieldOf.{as_field_of_stands}
 use Rattle.vdb_tree.proofs.Uniform.{cell_exact, exact_by}
-use Rattle.vdb_scene.specs.Scalars.{scalar_eq}
-use Rattle.vdb_scene.specs.Step.{write_takes_memory}
 use Rattle.vdb_scene.proofs.Writing.{no_memory}
 use Rattle.vdb_scene.proofs.grid_tree.write.Goals as goal
 

@@ -1,11 +1,4 @@
-use Rattle.std.proofs.Common.{subst}
-use Rattle.std.specs.Prelude.{Ok}
-use Rattle.vdb_coord.specs.Blocks.{vdb}
-use Rattle.vdb_tree.specs.Field.{as_field_of, write}
-use Rattle.vdb_tree.specs.Layout.{field_of}
-use Rattle.vdb_tree.specs.Outcome.{IsOutcome}
-use Rattle.vdb_tree.proofs.AsFieldOf.{as_outcome_of_write}
-use Rattle.vdb_scene.specs.Scalars.{scalar_eq}
+use Rattle.vdb_scene.proofs.Common.{subst, Ok, vdb, as_field_of, write, field_of, IsOutcome, as_outcome_of_write, scalar_eq}
 use Rattle.vdb_scene.proofs.grid_tree.write_in_leaf.Goals as goal
 
 pub returns-then-this-ne0-clause-outcome : goal.returns-then-this-ne0-clause-outcome

@@ -1,6 +1,4 @@
-use Rattle.std.proofs.Common.{◌≢◌, map, length, rules}
-use Rattle.std.proofs.lemmas.List.{length-map}
-use Rattle.vdb_script.specs.Grammar.{iterations}
+use Rattle.vdb_script.proofs.Common.{◌≢◌, map, length, rules, length-map, iterations}
 use Rattle.vdb_script.proofs.Forms.{whole_takes, iterations_takes}
 use Rattle.vdb_script.proofs.iterations.name_and_iterations.Goals as goal
 

@@ -1,7 +1,5 @@
-use Rattle.std.proofs.Common.{◌∷◌, ◌++◌, ◌+◌, length, take, drop, ap, sym, ◌∙◌, rules}
+use Rattle.vdb_script.proofs.Common.{◌∷◌, ◌++◌, ◌+◌, length, take, drop, ap, sym, ◌∙◌, rules, source, ahead}
 use Rattle.std.proofs.Math.Seq.{drop-length}
-use Rattle.vdb_scene.specs.Watched.{source}
-use Rattle.vdb_script.specs.Reading.{ahead}
 use Rattle.vdb_script.proofs.Reading.{Takes, Takes-kept, Takes-all, Takes-newline, none_at_all, none_before, split_at}
 use Rattle.vdb_script.proofs.lines.read_text.Goals as goal
 

@@ -1,9 +1,4 @@
-use Rattle.std.proofs.Common.{◌≡◌, ◌∙◌, ap, arith, rules, List, suc, length, take}
-use Rattle.std.proofs.lemmas.Result.{err_from_is_err_and}
-use Rattle.vdb_coord.specs.declared.Coord.{Coord}
-use Rattle.vdb_scene.specs.Listings.{listed_of}
-use Rattle.vdb_scene.specs.declared.scalar.Scalar.{Scalar}
-use Rattle.vdb_script.specs.Text.{voxel_line}
+use Rattle.vdb_script.proofs.Common.{◌≡◌, ◌∙◌, ap, arith, rules, List, suc, length, take, err_from_is_err_and, Coord, listed_of, Scalar, voxel_line}
 use Rattle.vdb_script.proofs.Yielding.{behind_next, next_of}
 use Rattle.vdb_script.proofs.Pages.{so_far_cut, so_far_more}
 use Rattle.vdb_script.proofs.lists.add_voxels.Goals as goal

@@ -1,7 +1,4 @@
-use Rattle.std.proofs.Common.{◌≡◌, ◌+◌, drop, length, take}
-use Rattle.vdb_scene.specs.Listings.{listed_of}
-use Rattle.vdb_scene.specs.Watched.{has_failed, source}
-use Rattle.vdb_script.specs.Text.{voxel_line}
+use Rattle.vdb_script.proofs.Common.{◌≡◌, ◌+◌, drop, length, take, listed_of, has_failed, source, voxel_line}
 use Rattle.vdb_script.proofs.Pages.{AddedSoFar}
 use Rattle.vdb_script.proofs.lists.add_voxels.Given as goal
 

@@ -1,12 +1,6 @@
-use Rattle.std.proofs.Common.{◌≡◌, ◌∙◌, ap, subst, ℕ, Bool, List, ◌++◌, flat_map, length, take}
-use Rattle.std.specs.Prelude.{nat_lt}
-use Rattle.std.proofs.lemmas.Result.{err_from_is_err_and}
-use Rattle.vdb_coord.specs.declared.Coord.{Coord}
-use Rattle.vdb_scene.specs.Listings.{listed_of, voxels_of}
-use Rattle.vdb_scene.specs.Watched.{source}
-use Rattle.vdb_scene.specs.declared.scalar.Scalar.{Scalar}
-use Rattle.vdb_script.specs.Text.{last_line, more_word, voxel_line}
-use Rattle.vdb_script.specs.Writing.{HasAdded, HasCut}
+use Rattle.vdb_script.proofs.Common.{◌≡◌, ◌∙◌, ap, subst, ℕ, Bool, List, ◌++◌, flat_map, length, take, nat_lt, err_from_is_err_and, Coord, listed_of, source, Scalar, last_line, voxel_line, HasAdded, HasCut}
+use Rattle.vdb_scene.specs.Listings.{voxels_of}
+use Rattle.vdb_script.specs.Text.{more_word}
 use Rattle.vdb_script.proofs.Yielding.{first_items, last_items, more_than}
 use Rattle.vdb_script.proofs.Pages.{cut_at_items, cut_at_last, writes_all}
 use Rattle.vdb_script.proofs.lists.print_list.Goals as goal

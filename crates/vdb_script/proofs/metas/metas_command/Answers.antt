@@ -1,6 +1,4 @@
-use Rattle.std.proofs.Common.{◌≢◌, map, length, rules}
-use Rattle.std.proofs.lemmas.List.{length-map}
-use Rattle.vdb_script.specs.Grammar.{metas}
+use Rattle.vdb_script.proofs.Common.{◌≢◌, map, length, rules, length-map, metas}
 use Rattle.vdb_script.proofs.Forms.{whole_takes, metas_takes}
 use Rattle.vdb_script.proofs.metas.metas_command.Goals as goal
 

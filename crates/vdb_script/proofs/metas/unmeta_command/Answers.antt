@@ -1,6 +1,4 @@
-use Rattle.std.proofs.Common.{◌≢◌, map, length, rules}
-use Rattle.std.proofs.lemmas.List.{length-map}
-use Rattle.vdb_script.specs.Grammar.{unmeta}
+use Rattle.vdb_script.proofs.Common.{◌≢◌, map, length, rules, length-map, unmeta}
 use Rattle.vdb_script.proofs.Forms.{whole_takes, unmeta_takes}
 use Rattle.vdb_script.proofs.metas.unmeta_command.Goals as goal
 

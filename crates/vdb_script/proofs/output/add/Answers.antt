@@ -1,5 +1,4 @@
-use Rattle.std.proofs.Common.{ap, sym, ℕ, List, ◌++◌}
-use Rattle.std.proofs.lemmas.Result.{err_from_is_err_and}
+use Rattle.vdb_script.proofs.Common.{ap, sym, ℕ, List, ◌++◌, err_from_is_err_and}
 use Rattle.vdb_script.proofs.Pages.{cut_before}
 use Rattle.vdb_script.proofs.output.add.Goals as goal
 

@@ -1,6 +1,4 @@
-use Rattle.std.proofs.Common.{◌≡◌, ◌≤◌, ◌-◌, length, take}
-use Rattle.std.specs.Io.KnownBytes.{Appends}
-use Rattle.vdb_scene.specs.Watched.{has_failed, source}
+use Rattle.vdb_script.proofs.Common.{◌≡◌, ◌≤◌, ◌-◌, length, take, Appends, has_failed, source}
 use Rattle.vdb_script.proofs.output.write_bytes.Given as goal
 
 -- what was taken so far

@@ -1,8 +1,7 @@
-use Rattle.std.proofs.Common.{◌≡◌, ◌∙◌, rules, ap, ℕ, ◌+◌, List, ◌∷◌, Some, drop, slice_get}
+use Rattle.vdb_script.proofs.Common.{◌≡◌, ◌∙◌, rules, ap, ℕ, ◌+◌, List, ◌∷◌, Some, drop, err_from_is_err_and, pair_line}
+use Rattle.std.proofs.Common.{slice_get}
 use Rattle.std.proofs.lemmas.List.{drop_more}
 use Rattle.std.proofs.lemmas.Option.{get_or_from_slice_get, slice_get_within}
-use Rattle.std.proofs.lemmas.Result.{err_from_is_err_and}
-use Rattle.vdb_script.specs.Text.{pair_line}
 use Rattle.vdb_script.proofs.Pages.{so_far_cut, so_far_more}
 use Rattle.vdb_script.proofs.pairs.add_pairs.Goals as goal
 

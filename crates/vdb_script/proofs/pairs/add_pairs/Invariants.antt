@@ -1,6 +1,4 @@
-use Rattle.std.proofs.Common.{◌≡◌, drop}
-use Rattle.vdb_scene.specs.Watched.{has_failed, source}
-use Rattle.vdb_script.specs.Text.{pair_line}
+use Rattle.vdb_script.proofs.Common.{◌≡◌, drop, has_failed, source, pair_line}
 use Rattle.vdb_script.proofs.Pages.{AddedSoFar}
 use Rattle.vdb_script.proofs.pairs.add_pairs.Given as goal
 

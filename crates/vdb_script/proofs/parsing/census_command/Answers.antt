@@ -1,6 +1,4 @@
-use Rattle.std.proofs.Common.{◌≢◌, map, length, rules}
-use Rattle.std.proofs.lemmas.List.{length-map}
-use Rattle.vdb_script.specs.Grammar.{census}
+use Rattle.vdb_script.proofs.Common.{◌≢◌, map, length, rules, length-map, census}
 use Rattle.vdb_script.proofs.Forms.{whole_takes, census_takes}
 use Rattle.vdb_script.proofs.parsing.census_command.Goals as goal
 

@@ -1,6 +1,4 @@
-use Rattle.std.proofs.Common.{◌≡◌, ◌≢◌, [], ap, map, length, refl, rules, sym}
-use Rattle.std.proofs.lemmas.List.{length-map}
-use Rattle.vdb_script.specs.Grammar.{clip, whole}
+use Rattle.vdb_script.proofs.Common.{◌≡◌, ◌≢◌, [], ap, map, length, refl, rules, sym, length-map, clip, whole}
 use Rattle.vdb_script.proofs.Forms.{seven, clip_takes, whole_takes}
 use Rattle.vdb_script.proofs.parsing.clip_command.Goals as goal
 

@@ -1,5 +1,4 @@
-use Rattle.std.proofs.Common.{[], ◌∷◌, rules, ◌≡◌, None, refl}
-use Rattle.vdb_script.specs.Grammar.{point}
+use Rattle.vdb_script.proofs.Common.{[], ◌∷◌, rules, ◌≡◌, None, refl, point}
 use Rattle.vdb_script.proofs.Forms.{point_none}
 use Rattle.vdb_script.proofs.parsing.corners_of.Goals as goal
 

@@ -1,7 +1,5 @@
-use Rattle.std.proofs.Common.{◌≡◌, ◌≢◌, ◌∙◌, [], Ok, Some, ap, map, length, refl, rules, sym}
-use Rattle.std.proofs.lemmas.List.{length-map}
+use Rattle.vdb_script.proofs.Common.{◌≡◌, ◌≢◌, ◌∙◌, [], Ok, Some, ap, map, length, refl, rules, sym, length-map, count_box, whole}
 use Rattle.vdb_scene.specs.declared.command.Command.TheVariants.{Count}
-use Rattle.vdb_script.specs.Grammar.{count_box, whole}
 use Rattle.vdb_script.proofs.Forms.{count_of_seven, no_count, seven}
 use Rattle.vdb_script.proofs.parsing.count_command.Goals as goal
 use Rattle.vdb_script.proofs.parsing.count_command.Goals.{in_default-via-then-tokens-lt2, in_default-via-else-tokens-lt2+else-tokens-lt3+then-tokens-lt7, in_default-via-else-tokens-lt2+else-tokens-lt3+else-tokens-lt7+else-tokens-lt8}

@@ -1,5 +1,4 @@
-use Rattle.std.proofs.Common.{◌≢◌, map, length, rules}
-use Rattle.std.proofs.lemmas.List.{length-map}
+use Rattle.vdb_script.proofs.Common.{◌≢◌, map, length, rules, length-map}
 use Rattle.vdb_script.specs.Grammar.{drop}
 use Rattle.vdb_script.proofs.Forms.{whole_takes, drop_takes}
 use Rattle.vdb_script.proofs.parsing.drop_command.Goals as goal

@@ -1,6 +1,4 @@
-use Rattle.std.proofs.Common.{◌≡◌, ◌≢◌, ℕ, List, [], ◌∷◌, Bor, ap, get_or, map, length, refl, rules, sym}
-use Rattle.std.proofs.lemmas.List.{length-map}
-use Rattle.vdb_script.specs.Grammar.{fill, whole}
+use Rattle.vdb_script.proofs.Common.{◌≡◌, ◌≢◌, ℕ, List, [], ◌∷◌, Bor, ap, get_or, map, length, refl, rules, sym, length-map, fill, whole}
 use Rattle.vdb_script.proofs.Forms.{nine, fill_takes, whole_takes}
 use Rattle.vdb_script.proofs.parsing.fill_command.Goals as goal
 

@@ -1,5 +1,4 @@
-use Rattle.std.proofs.Common.{◌≢◌, map, length, rules}
-use Rattle.std.proofs.lemmas.List.{length-map}
+use Rattle.vdb_script.proofs.Common.{◌≢◌, map, length, rules, length-map}
 use Rattle.vdb_script.proofs.Forms.{no_grid}
 use Rattle.vdb_script.proofs.parsing.grid_command.Goals as goal
 use Rattle.vdb_script.proofs.parsing.grid_command.Goals.{in_default-via-then-tokens-lt3, in_default-via-else-tokens-lt3+else-tokens-lt4+else-tokens-lt5}

@@ -1,6 +1,4 @@
-use Rattle.std.proofs.Common.{◌≡◌, ◌+◌, ◌++◌, ◌∷◌, ℕ, List, sym, ◌∙◌, ap, map, length, arith, rules, append-nil, length-append}
-use Rattle.std.proofs.lemmas.List.{length-map}
-use Rattle.vdb_script.specs.Lines.{tokens}
+use Rattle.vdb_script.proofs.Common.{◌≡◌, ◌+◌, ◌++◌, ◌∷◌, ℕ, List, sym, ◌∙◌, ap, map, length, arith, rules, append-nil, length-append, length-map, tokens}
 use Rattle.vdb_script.proofs.Forms.{line_meant, line_refused}
 use Rattle.vdb_script.proofs.parsing.parse.Goals as goal
 

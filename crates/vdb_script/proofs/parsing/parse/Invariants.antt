@@ -1,5 +1,4 @@
-use Rattle.std.proofs.Common.{◌≡◌, ◌≤◌, ◌++◌, ◌∷◌, map, length}
-use Rattle.vdb_script.specs.Lines.{tokens}
+use Rattle.vdb_script.proofs.Common.{◌≡◌, ◌≤◌, ◌++◌, ◌∷◌, map, length, tokens}
 use Rattle.vdb_script.proofs.parsing.parse.Given as goal
 
 -- the tokens so far, and those of what is left

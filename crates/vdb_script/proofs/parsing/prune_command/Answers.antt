@@ -1,6 +1,4 @@
-use Rattle.std.proofs.Common.{◌≢◌, map, length, rules}
-use Rattle.std.proofs.lemmas.List.{length-map}
-use Rattle.vdb_script.specs.Grammar.{prune}
+use Rattle.vdb_script.proofs.Common.{◌≢◌, map, length, rules, length-map, prune}
 use Rattle.vdb_script.proofs.Forms.{whole_takes, prune_takes}
 use Rattle.vdb_script.proofs.parsing.prune_command.Goals as goal
 

@@ -1,6 +1,4 @@
-use Rattle.std.proofs.Common.{◌≢◌, map, length, rules}
-use Rattle.std.proofs.lemmas.List.{length-map}
-use Rattle.vdb_script.specs.Grammar.{voxel_value}
+use Rattle.vdb_script.proofs.Common.{◌≢◌, map, length, rules, length-map, voxel_value}
 use Rattle.vdb_script.proofs.Forms.{whole_takes, voxel_value_takes}
 use Rattle.vdb_script.proofs.parsing.voxel_value.Goals as goal
 

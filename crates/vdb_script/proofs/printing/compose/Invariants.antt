@@ -1,5 +1,4 @@
-use Rattle.std.proofs.Common.{◌≡◌, map, take}
-use Rattle.std.specs.List.{join_with_byte}
+use Rattle.vdb_script.proofs.Common.{◌≡◌, map, take, join_with_byte}
 use Rattle.vdb_script.proofs.printing.compose.Given as goal
 
 -- the parts so far

@@ -1,7 +1,5 @@
-use Rattle.std.proofs.Common.{◌≡◌, ◌∷◌, length}
+use Rattle.vdb_script.proofs.Common.{◌≡◌, ◌∷◌, length, has_failed, source, cell_text}
 use Rattle.vdb_scene.specs.Slices.{cells_left}
-use Rattle.vdb_scene.specs.Watched.{has_failed, source}
-use Rattle.vdb_script.specs.Text.{cell_text}
 use Rattle.vdb_script.proofs.Pages.{AddedSoFar}
 use Rattle.vdb_script.proofs.slices.add_cells.Given as goal
 

@@ -1,5 +1,4 @@
-use Rattle.std.proofs.Common.{◌∙◌}
-use Rattle.std.proofs.lemmas.Result.{err_from_is_err_and}
+use Rattle.vdb_script.proofs.Common.{◌∙◌, err_from_is_err_and}
 use Rattle.vdb_script.proofs.RowLines.{adds_row, cut_at_cells, cut_at_head}
 use Rattle.vdb_script.proofs.slices.add_row.Goals as goal
 

@@ -1,6 +1,4 @@
-use Rattle.std.proofs.Common.{refl, rules}
-use Rattle.std.proofs.lemmas.Result.{err_from_is_err_and}
-use Rattle.vdb_script.specs.Text.{row_line}
+use Rattle.vdb_script.proofs.Common.{refl, rules, err_from_is_err_and, row_line}
 use Rattle.vdb_script.proofs.Pages.{so_far_cut, so_far_more}
 use Rattle.vdb_script.proofs.slices.add_rows.Goals as goal
 

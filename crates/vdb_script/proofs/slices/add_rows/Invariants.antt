@@ -1,7 +1,5 @@
-use Rattle.std.proofs.Common.{◌≡◌, length}
+use Rattle.vdb_script.proofs.Common.{◌≡◌, length, has_failed, source, row_line}
 use Rattle.vdb_scene.specs.Slices.{rows_left}
-use Rattle.vdb_scene.specs.Watched.{has_failed, source}
-use Rattle.vdb_script.specs.Text.{row_line}
 use Rattle.vdb_script.proofs.Pages.{AddedSoFar}
 use Rattle.vdb_script.proofs.slices.add_rows.Given as goal
 

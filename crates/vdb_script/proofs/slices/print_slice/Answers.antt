@@ -1,6 +1,4 @@
-use Rattle.std.proofs.Common.{◌∙◌, ap, codes, ℕ}
-use Rattle.std.proofs.lemmas.Result.{err_from_is_err_and}
-use Rattle.vdb_script.specs.Text.{last_line}
+use Rattle.vdb_script.proofs.Common.{◌∙◌, ap, codes, ℕ, err_from_is_err_and, last_line}
 use Rattle.vdb_script.proofs.Pages.{cut_at_items, cut_at_last, writes_all}
 use Rattle.vdb_script.proofs.slices.print_slice.Goals as goal
 

@@ -1,6 +1,4 @@
-use Rattle.std.proofs.Common.{◌≢◌, map, length, rules}
-use Rattle.std.proofs.lemmas.List.{length-map}
-use Rattle.vdb_script.specs.Grammar.{two_grids}
+use Rattle.vdb_script.proofs.Common.{◌≢◌, map, length, rules, length-map, two_grids}
 use Rattle.vdb_script.proofs.Forms.{whole_takes, two_grids_takes}
 use Rattle.vdb_script.proofs.two_grids.two_names.Goals as goal
 

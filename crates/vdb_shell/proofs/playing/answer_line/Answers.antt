@@ -1,5 +1,4 @@
-use Rattle.std.proofs.Common.{◌∙◌, sym, ap, Ok}
-use Rattle.vdb_scene.specs.Grids.{scene_of}
+use Rattle.vdb_shell.proofs.Common.{◌∙◌, sym, ap, Ok, scene_of}
 use Rattle.vdb_shell.proofs.LineSteps.{turn_applied, turn_refused}
 use Rattle.vdb_shell.proofs.playing.answer_line.Goals as goal
 

@@ -1,9 +1,6 @@
-use Rattle.std.proofs.Common.{◌≡◌, ℕ, ◌+◌, ◌^◌, ◌≤◌, List, Some, None, false}
-use Rattle.std.specs.Io.KnownBytes.{Appends}
-use Rattle.vdb_scene.specs.Grids.{scene_of}
-use Rattle.vdb_scene.specs.Watched.{bytes_given, empty_reads, has_failed, source}
-use Rattle.vdb_script.specs.Reading.{EndsWith, ahead, budget, end_count}
-use Rattle.vdb_script.specs.Text.{answers_text}
+use Rattle.vdb_shell.proofs.Common.{◌≡◌, ℕ, ◌+◌, ◌^◌, ◌≤◌, List, Some, None, false, Appends, scene_of, has_failed, source, ahead, budget, answers_text}
+use Rattle.vdb_scene.specs.Watched.{bytes_given, empty_reads}
+use Rattle.vdb_script.specs.Reading.{EndsWith, end_count}
 use Rattle.vdb_shell.proofs.Told.{Handed}
 use Rattle.vdb_shell.proofs.playing.play.Given as goal
 

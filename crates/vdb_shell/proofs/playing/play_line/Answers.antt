@@ -1,5 +1,4 @@
-use Rattle.std.proofs.Common.{refl}
-use Rattle.vdb_scene.specs.Grids.{scene_of}
+use Rattle.vdb_shell.proofs.Common.{refl, scene_of}
 use Rattle.vdb_shell.proofs.LineSteps.{turn_too_long}
 use Rattle.vdb_shell.proofs.playing.play_line.Goals as goal
 

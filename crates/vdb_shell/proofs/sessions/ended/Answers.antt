@@ -1,5 +1,4 @@
-use Rattle.std.proofs.Common.{ap, ◌∙◌}
-use Rattle.vdb_shell.specs.Session.{status}
+use Rattle.vdb_shell.proofs.Common.{ap, ◌∙◌, status}
 use Rattle.vdb_shell.proofs.Parts.{completed}
 use Rattle.vdb_shell.proofs.sessions.ended.Goals as goal
 

@@ -1,8 +1,4 @@
-use Rattle.std.proofs.Common.{refl, sym, subst, [], Some}
-use Rattle.std.specs.Io.KnownBytes.{Consumes}
-use Rattle.std.proofs.KnownBytes.{Appends-nil}
-use Rattle.vdb_scene.specs.Grids.{scene_of}
-use Rattle.vdb_shell.specs.Session.{IsUnloaded}
+use Rattle.vdb_shell.proofs.Common.{refl, sym, subst, [], Some, Consumes, Appends-nil, scene_of, IsUnloaded}
 use Rattle.vdb_shell.proofs.Parts.{loaded_session, saves_nothing, unloaded}
 use Rattle.vdb_shell.proofs.sessions.session.Goals as goal
 

@@ -1,5 +1,4 @@
-use Rattle.std.proofs.Common.{SFits, rules, w32}
-use Rattle.std.proofs.lemmas.Int.{to_z-of_z}
+use Rattle.vdb_tree.proofs.Common.{SFits, rules, w32, to_z-of_z}
 use Rattle.vdb_tree.proofs.KeySkips.{skip_none, skip_slab}
 use Rattle.vdb_tree.proofs.PaintedVoxels.{bumped, covered}
 use Rattle.vdb_tree.proofs.keys.skip_slab.Goals as goal

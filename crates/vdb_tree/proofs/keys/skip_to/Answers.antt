@@ -1,5 +1,4 @@
-use Rattle.std.proofs.Common.{SFits, rules, w32}
-use Rattle.std.proofs.lemmas.Int.{to_z-of_z}
+use Rattle.vdb_tree.proofs.Common.{SFits, rules, w32, to_z-of_z}
 use Rattle.vdb_tree.proofs.KeySkips.{skip_in_row, skip_rows, skip_to_row, slab_beyond, slab_done}
 use Rattle.vdb_tree.proofs.PaintedVoxels.{bumped, covered}
 use Rattle.vdb_tree.proofs.keys.skip_to.Goals as goal

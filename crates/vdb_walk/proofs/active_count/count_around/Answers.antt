@@ -1,6 +1,4 @@
-use Rattle.std.proofs.Common.{sym, ◌∙◌}
-use Rattle.vdb_coord.specs.declared.Level.TheVariants.{Upper}
-use Rattle.vdb_tree.specs.Layout.{bits_of}
+use Rattle.vdb_walk.proofs.Common.{sym, ◌∙◌, Upper, bits_of}
 use Rattle.vdb_walk.proofs.BlockCounts.{around_covered, around_none, around_part}
 use Rattle.vdb_walk.proofs.active_count.count_around.Goals as goal
 

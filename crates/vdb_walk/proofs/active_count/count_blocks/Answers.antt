@@ -1,10 +1,4 @@
-use Rattle.std.proofs.Common.{◌≡◌, ◌+◌, arith, subst}
-use Rattle.std.specs.Prelude.{Option}
-use Rattle.vdb_coord.specs.declared.Coord.{Coord}
-use Rattle.vdb_coord.specs.declared.Level.TheVariants.{Upper}
-use Rattle.vdb_tree.specs.Layout.{bits_of, field_of}
-use Rattle.vdb_tree.specs.ConstantBlocks.{count}
-use Rattle.vdb_walk.specs.internal.BlocksFrom.{active_from}
+use Rattle.vdb_walk.proofs.Common.{◌≡◌, ◌+◌, arith, subst, Option, Coord, Upper, bits_of, field_of, count, active_from}
 use Rattle.vdb_walk.proofs.BlockCounts.{first_counted, sum_all, sum_fits, sum_more}
 use Rattle.vdb_walk.proofs.active_count.count_blocks.Goals as goal
 

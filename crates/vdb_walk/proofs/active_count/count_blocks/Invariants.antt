@@ -1,10 +1,4 @@
-use Rattle.std.proofs.Common.{◌≡◌, ◌+◌}
-use Rattle.std.specs.Prelude.{IfSome}
-use Rattle.vdb_coord.specs.declared.Level.TheVariants.{Upper}
-use Rattle.vdb_tree.specs.Layout.{bits_of, field_of}
-use Rattle.vdb_tree.specs.Parts.{left_count}
-use Rattle.vdb_tree.specs.ConstantBlocks.{count}
-use Rattle.vdb_walk.specs.internal.BlocksFrom.{IsBoxStart, active_from}
+use Rattle.vdb_walk.proofs.Common.{◌≡◌, ◌+◌, IfSome, Upper, bits_of, field_of, left_count, count, IsBoxStart, active_from}
 use Rattle.vdb_walk.proofs.active_count.count_blocks.Given as goal
 
 abbrev pub invariant-starts : goal.invariant-starts

@@ -1,8 +1,4 @@
-use Rattle.std.proofs.Common.{◌≡◌, arith, rules, subst, sym, ◌∙◌, Option}
-use Rattle.vdb_coord.specs.declared.Coord.{Coord}
-use Rattle.vdb_tree.specs.Layout.{bits_of, field_of}
-use Rattle.vdb_tree.specs.ConstantBlocks.{count}
-use Rattle.vdb_tree.proofs.Sizes.{internal_small, leaf_small}
+use Rattle.vdb_walk.proofs.Common.{◌≡◌, arith, rules, subst, sym, ◌∙◌, Option, Coord, bits_of, field_of, count, internal_small, leaf_small}
 use Rattle.vdb_walk.proofs.PartCounts.{active_left, all_few, counted_all, counted_few, counted_more, left_first}
 use Rattle.vdb_walk.proofs.active_count.count_in.Goals as goal
 

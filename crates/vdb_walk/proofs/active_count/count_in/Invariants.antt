@@ -1,8 +1,4 @@
-use Rattle.std.proofs.Common.{◌≡◌, ◌+◌}
-use Rattle.vdb_tree.specs.Layout.{bits_of, field_of}
-use Rattle.vdb_tree.specs.Parts.{IsWalk, left_count}
-use Rattle.vdb_tree.specs.ConstantBlocks.{count}
-use Rattle.vdb_tree.specs.declared.queries.parts.Skip.TheVariants.{Inactive}
+use Rattle.vdb_walk.proofs.Common.{◌≡◌, ◌+◌, bits_of, field_of, IsWalk, left_count, count, Inactive}
 use Rattle.vdb_walk.proofs.PartCounts.{active_left}
 use Rattle.vdb_walk.proofs.active_count.count_in.Given as goal
 

@@ -1,12 +1,4 @@
-use Rattle.std.proofs.Common.{ap, rules, subst, sym, ◌∙◌, Bool, List}
-use Rattle.vdb_coord.specs.Blocks.{entries}
-use Rattle.vdb_coord.specs.declared.Bits.{Bits}
-use Rattle.vdb_coord.specs.declared.Level.TheVariants.{Leaf}
-use Rattle.vdb_coord.proofs.Positions.{entries_is}
-use Rattle.vdb_mask.specs.Mask.{on_count}
-use Rattle.vdb_node.specs.Nodes.{IsOffFrom}
-use Rattle.vdb_tree.specs.Layout.{bits_of, field_of}
-use Rattle.vdb_walk.specs.internal.Voxels.{IsInFirstBlock}
+use Rattle.vdb_walk.proofs.Common.{ap, rules, subst, sym, ◌∙◌, Bool, List, entries, Bits, Leaf, entries_is, on_count, IsOffFrom, bits_of, field_of, IsInFirstBlock}
 use Rattle.vdb_walk.proofs.Cuts.{same_boxes}
 use Rattle.vdb_walk.proofs.VoxelCounts.{cut_counted, in_one_block, whole_counted}
 use Rattle.vdb_walk.proofs.active_count.count_leaf.Goals as goal

@@ -1,8 +1,4 @@
-use Rattle.vdb_coord.specs.Order.{IsNextCoord}
-use Rattle.vdb_coord.specs.declared.Level.TheVariants.{Upper}
-use Rattle.std.proofs.Common.{ap, ◌+◌, ◌∙◌}
-use Rattle.vdb_tree.specs.Layout.{bits_of}
-use Rattle.vdb_walk.specs.internal.BlocksFrom.{active_from}
+use Rattle.vdb_walk.proofs.Common.{IsNextCoord, Upper, ap, ◌+◌, ◌∙◌, bits_of, active_from}
 use Rattle.vdb_walk.proofs.BlockCounts.{from_next, inactive_end, nearer_from, starts_next}
 use Rattle.vdb_walk.proofs.active_count.count_next.Goals as goal
 

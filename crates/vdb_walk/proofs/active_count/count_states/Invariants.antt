@@ -1,5 +1,4 @@
-use Rattle.std.proofs.Common.{◌≡◌, ◌+◌, ◌-◌, ◌*◌, ◌≤◌}
-use Rattle.vdb_walk.specs.internal.Voxels.{set_count}
+use Rattle.vdb_walk.proofs.Common.{◌≡◌, ◌+◌, ◌-◌, ◌*◌, ◌≤◌, set_count}
 use Rattle.vdb_walk.proofs.VoxelCounts.{set_from}
 use Rattle.vdb_walk.proofs.active_count.count_states.Given as goal
 

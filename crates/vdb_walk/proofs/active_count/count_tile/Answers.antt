@@ -1,7 +1,4 @@
-use Rattle.std.proofs.Common.{ap, sym, ◌∙◌}
-use Rattle.vdb_tree.specs.Field.{Field}
-use Rattle.vdb_tree.specs.Layout.{bits_of, field_of}
-use Rattle.vdb_value.specs.declared.Cell.{Cell}
+use Rattle.vdb_walk.proofs.Common.{ap, sym, ◌∙◌, Field, bits_of, field_of, Cell}
 use Rattle.vdb_walk.proofs.Counts.{count_all, count_none}
 use Rattle.vdb_walk.proofs.active_count.count_tile.Goals as goal
 

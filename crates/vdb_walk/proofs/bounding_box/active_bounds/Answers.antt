@@ -1,9 +1,4 @@
-use Rattle.std.proofs.Common.{◌≡◌, ap, refl, subst, sym, true, ◌∙◌}
-use Rattle.std.specs.Prelude.{None, Some}
-use Rattle.vdb_coord.specs.Space.{Box, everywhere, is_inside}
-use Rattle.vdb_coord.specs.declared.Coord.{Coord}
-use Rattle.vdb_tree.specs.Layout.{bits_of, field_of}
-use Rattle.vdb_walk.specs.internal.Surround.{IsFoundTo}
+use Rattle.vdb_walk.proofs.Common.{◌≡◌, ap, refl, subst, sym, true, ◌∙◌, None, Some, Box, everywhere, is_inside, Coord, bits_of, field_of, IsFoundTo}
 use Rattle.vdb_walk.proofs.Surrounds.{active_bounds, found_first}
 use Rattle.vdb_walk.proofs.bounding_box.active_bounds.Goals as goal
 

@@ -1,9 +1,4 @@
-use Rattle.std.proofs.Common.{IsTrue}
-use Rattle.std.specs.Prelude.{IfSome}
-use Rattle.vdb_coord.specs.Space.{everywhere, is_inside}
-use Rattle.vdb_tree.specs.Layout.{bits_of, field_of}
-use Rattle.vdb_tree.specs.Parts.{left_count}
-use Rattle.vdb_walk.specs.internal.Surround.{IsFoundTo}
+use Rattle.vdb_walk.proofs.Common.{IsTrue, IfSome, everywhere, is_inside, bits_of, field_of, left_count, IsFoundTo}
 use Rattle.vdb_walk.proofs.bounding_box.active_bounds.Given as goal
 
 abbrev pub invariant-starts : goal.invariant-starts

@@ -1,8 +1,4 @@
-use Rattle.std.proofs.Common.{◌≡◌, rules, ◌∙◌}
-use Rattle.vdb_coord.specs.Space.{everywhere, is_box, is_within}
-use Rattle.vdb_coord.proofs.Boxes.{both}
-use Rattle.vdb_tree.specs.Layout.{bits_of}
-use Rattle.vdb_tree.proofs.Sizes.{internal_small, leaf_small}
+use Rattle.vdb_walk.proofs.Common.{◌≡◌, rules, ◌∙◌, everywhere, is_box, is_within, both, bits_of, internal_small, leaf_small}
 use Rattle.vdb_walk.proofs.Surrounds.{found_all, found_from, found_more, found_past}
 use Rattle.vdb_walk.proofs.bounding_box.around_from.Goals as goal
 

@@ -1,9 +1,4 @@
-use Rattle.std.proofs.Common.{◌≡◌}
-use Rattle.vdb_coord.specs.Space.{everywhere}
-use Rattle.vdb_tree.specs.Layout.{bits_of, field_of}
-use Rattle.vdb_tree.specs.Parts.{IsWalk, left_count}
-use Rattle.vdb_tree.specs.declared.queries.parts.Skip.TheVariants.{Inactive}
-use Rattle.vdb_walk.specs.internal.Surround.{IsFoundTo}
+use Rattle.vdb_walk.proofs.Common.{◌≡◌, everywhere, bits_of, field_of, IsWalk, left_count, Inactive, IsFoundTo}
 use Rattle.vdb_walk.proofs.bounding_box.around_from.Given as goal
 
 abbrev pub invariant-parts : goal.invariant-parts

@@ -1,12 +1,4 @@
-use Rattle.std.proofs.Common.{rules, subst, sym, Bool, List}
-use Rattle.vdb_coord.specs.Blocks.{entries}
-use Rattle.vdb_coord.specs.declared.Bits.{Bits}
-use Rattle.vdb_coord.specs.declared.Level.TheVariants.{Leaf}
-use Rattle.vdb_coord.proofs.Positions.{entries_is}
-use Rattle.vdb_node.specs.Nodes.{IsOffFrom}
-use Rattle.vdb_tree.specs.Field.{Field}
-use Rattle.vdb_tree.specs.Layout.{bits_of, field_of}
-use Rattle.vdb_walk.specs.internal.Voxels.{IsInFirstBlock}
+use Rattle.vdb_walk.proofs.Common.{rules, subst, sym, Bool, List, entries, Bits, Leaf, entries_is, IsOffFrom, Field, bits_of, field_of, IsInFirstBlock}
 use Rattle.vdb_walk.proofs.Surrounds.{by_states, kept}
 use Rattle.vdb_walk.proofs.VoxelCounts.{has_states, in_one_block}
 use Rattle.vdb_walk.proofs.bounding_box.around_leaf.Goals as goal

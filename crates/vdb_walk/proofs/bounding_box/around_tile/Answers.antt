@@ -1,7 +1,4 @@
-use Rattle.std.proofs.Common.{ap, ◌∙◌}
-use Rattle.vdb_tree.specs.Field.{Field}
-use Rattle.vdb_tree.specs.Layout.{bits_of, field_of}
-use Rattle.vdb_value.specs.declared.Cell.{Cell}
+use Rattle.vdb_walk.proofs.Common.{ap, ◌∙◌, Field, bits_of, field_of, Cell}
 use Rattle.vdb_walk.proofs.Surrounds.{grown, kept_off}
 use Rattle.vdb_walk.proofs.bounding_box.around_tile.Goals as goal
 

@@ -1,6 +1,4 @@
-use Rattle.std.proofs.Common.{◌*◌, ◌-◌, ◌≤◌, IsTrue}
-use Rattle.std.specs.Prelude.{IfSome}
-use Rattle.vdb_coord.specs.Space.{is_box}
+use Rattle.vdb_walk.proofs.Common.{◌*◌, ◌-◌, ◌≤◌, IsTrue, IfSome, is_box}
 use Rattle.vdb_walk.proofs.Surrounds.{Reaches}
 use Rattle.vdb_walk.proofs.bounding_box.around_voxels.Given as goal
 

@@ -1,5 +1,4 @@
-use Rattle.std.proofs.Common.{sym, ◌∙◌}
-use Rattle.vdb_coord.proofs.Meeting.{within_each}
+use Rattle.vdb_walk.proofs.Common.{sym, ◌∙◌, within_each}
 use Rattle.vdb_walk.proofs.bounding_box.lies_within.Goals as goal
 
 pub returns-in-Some : goal.returns-in-Some

@@ -1,5 +1,4 @@
-use Rattle.std.proofs.Common.{sym, ◌∙◌}
-use Rattle.vdb_coord.proofs.BlockOrder.{fewer_past}
+use Rattle.vdb_walk.proofs.Common.{sym, ◌∙◌, fewer_past}
 use Rattle.vdb_walk.proofs.bounding_box.past_start.Goals as goal
 
 pub returns-then-is_lt-clause-nearer : goal.returns-then-is_lt-clause-nearer

@@ -1,6 +1,4 @@
-use Rattle.std.proofs.Common.{ap, sym, ◌∙◌}
-use Rattle.vdb_coord.specs.Space.{Box, everywhere, is_box, is_inside, is_within}
-use Rattle.vdb_coord.proofs.Boxes.{both}
+use Rattle.vdb_walk.proofs.Common.{ap, sym, ◌∙◌, Box, everywhere, is_box, is_inside, is_within, both}
 use Rattle.vdb_walk.proofs.covered.last_covered.Goals as goal
 
 pub last_of_layer-requires-clause-held : goal.last_of_layer-requires-clause-held

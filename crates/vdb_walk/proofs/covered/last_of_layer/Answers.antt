@@ -1,10 +1,5 @@
-use Rattle.std.proofs.Common.{◌≡◌, subst, sym, true}
-use Rattle.vdb_coord.specs.Blocks.{block_around}
-use Rattle.vdb_coord.specs.Space.{Box, coord, everywhere, is_box, is_inside, is_within}
-use Rattle.vdb_coord.specs.declared.Coord.{Coord}
-use Rattle.vdb_coord.proofs.Boxes.{both, box_from_inside}
-use Rattle.vdb_coord.proofs.Nesting.{inside_around}
-use Rattle.vdb_walk.specs.internal.Covered.{IsCoveredUpTo, node_of}
+use Rattle.vdb_walk.proofs.Common.{◌≡◌, subst, sym, true, block_around, Box, coord, everywhere, is_box, is_inside, is_within, Coord, both, inside_around, IsCoveredUpTo, node_of}
+use Rattle.vdb_coord.proofs.Boxes.{box_from_inside}
 use Rattle.vdb_walk.proofs.CoveredRuns.{block_covered, layer_covered, layer_inside}
 use Rattle.vdb_walk.proofs.Surrounds.{max_inside}
 use Rattle.vdb_walk.proofs.covered.last_of_layer.Goals as goal

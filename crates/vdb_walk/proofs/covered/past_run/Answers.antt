@@ -1,6 +1,4 @@
-use Rattle.vdb_coord.specs.Order.{IsNextCoord}
-use Rattle.vdb_coord.specs.Space.{everywhere}
-use Rattle.vdb_walk.specs.internal.Covered.{IsCoveredUpTo}
+use Rattle.vdb_walk.proofs.Common.{IsNextCoord, everywhere, IsCoveredUpTo}
 use Rattle.vdb_walk.proofs.CoveredRuns.{covered_next, next_inside}
 use Rattle.vdb_walk.proofs.covered.past_run.Goals as goal
 

@@ -1,7 +1,4 @@
-use Rattle.std.proofs.Common.{refl}
-use Rattle.std.specs.Prelude.{option_map, Some}
-use Rattle.vdb_tree.specs.Layout.{bits_of, field_of}
-use Rattle.vdb_walk.specs.internal.Firsts.{IsOnPast}
+use Rattle.vdb_walk.proofs.Common.{refl, option_map, Some, bits_of, field_of, IsOnPast}
 use Rattle.vdb_walk.proofs.PartSeeks.{IsTilePast, in_one_block, leaf_first, leaf_value, part_of_cell, part_of_leaf, tile_first, tile_value}
 use Rattle.vdb_walk.proofs.first_active.first_held.Goals as goal
 

@@ -1,11 +1,4 @@
-use Rattle.std.proofs.Common.{◌*◌, ◌≤◌, ap, subst, sym}
-use Rattle.std.specs.Prelude.{option_map}
-use Rattle.vdb_coord.specs.Blocks.{entries}
-use Rattle.vdb_coord.specs.declared.Bits.{Bits}
-use Rattle.vdb_coord.specs.declared.Level.TheVariants.{Leaf}
-use Rattle.vdb_tree.specs.Layout.{bits_of, field_of}
-use Rattle.vdb_tree.proofs.Sizes.{leaf_small}
-use Rattle.vdb_walk.specs.internal.Firsts.{IsInLeafBlock, IsOnPast}
+use Rattle.vdb_walk.proofs.Common.{◌*◌, ◌≤◌, ap, subst, sym, option_map, entries, Bits, Leaf, bits_of, field_of, leaf_small, IsInLeafBlock, IsOnPast}
 use Rattle.vdb_walk.proofs.PartSeeks.{IsTilePast, leaf_first, leaf_value, tile_first, tile_value}
 use Rattle.vdb_walk.proofs.first_active.first_in.Goals as goal
 

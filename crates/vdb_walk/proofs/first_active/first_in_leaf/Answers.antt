@@ -1,10 +1,4 @@
-use Rattle.std.proofs.Common.{◌∙◌, ℕ, ap, arith, rules, subst, sym}
-use Rattle.std.specs.Prelude.{None, Some}
-use Rattle.vdb_coord.specs.declared.Level.TheVariants.{Leaf}
-use Rattle.vdb_coord.proofs.Positions.{entries_is, offset_below}
-use Rattle.vdb_node.specs.Leaf.{cell_in}
-use Rattle.vdb_node.specs.Nodes.{entry_count, IsOffFrom}
-use Rattle.vdb_tree.proofs.Sizes.{leaf_small}
+use Rattle.vdb_walk.proofs.Common.{◌∙◌, ℕ, ap, arith, rules, subst, sym, None, Some, Leaf, entries_is, offset_below, cell_in, entry_count, IsOffFrom, leaf_small}
 use Rattle.vdb_walk.proofs.LeafSeeks.{in_first_block, set_is_first}
 use Rattle.vdb_walk.proofs.first_active.first_in_leaf.Goals as goal
 

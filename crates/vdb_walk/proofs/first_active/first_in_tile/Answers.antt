@@ -1,5 +1,4 @@
-use Rattle.std.specs.Prelude.{None, Some}
-use Rattle.vdb_walk.specs.internal.Firsts.{IsPastLast}
+use Rattle.vdb_walk.proofs.Common.{None, Some, IsPastLast}
 use Rattle.vdb_walk.proofs.Firsts.{first_same}
 use Rattle.vdb_walk.proofs.PartSeeks.{IsTilePast}
 use Rattle.vdb_walk.proofs.first_active.first_in_tile.Goals as goal

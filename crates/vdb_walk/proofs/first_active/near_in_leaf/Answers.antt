@@ -1,10 +1,4 @@
-use Rattle.std.proofs.Common.{◌+◌, ◌∙◌, ℕ, ap, subst, sym}
-use Rattle.std.specs.Prelude.{Some}
-use Rattle.vdb_coord.specs.declared.Level.TheVariants.{Leaf}
-use Rattle.vdb_coord.proofs.Positions.{entries_is}
-use Rattle.vdb_node.specs.Leaf.{cell_in}
-use Rattle.vdb_node.specs.Nodes.{entry_count, IsOffFrom}
-use Rattle.vdb_walk.specs.internal.Voxels.{IsNextSetAt}
+use Rattle.vdb_walk.proofs.Common.{◌+◌, ◌∙◌, ℕ, ap, subst, sym, Some, Leaf, entries_is, cell_in, entry_count, IsOffFrom, IsNextSetAt}
 use Rattle.vdb_walk.proofs.LeafSeeks.{past_entry, set_is_first}
 use Rattle.vdb_walk.proofs.VoxelSeeks.{near_below, near_found}
 use Rattle.vdb_walk.proofs.first_active.near_in_leaf.Given.{Over}

@@ -1,6 +1,4 @@
-use Rattle.std.proofs.Common.{rules}
-use Rattle.vdb_tree.specs.Layout.{bits_of, field_of}
-use Rattle.vdb_walk.specs.Reports.{active}
+use Rattle.vdb_walk.proofs.Common.{rules, bits_of, field_of, active}
 use Rattle.vdb_walk.proofs.ListingSizes.{listing_small}
 use Rattle.vdb_walk.proofs.Yielded.{first_yielded}
 use Rattle.vdb_walk.proofs.first_active.next_active.Goals as goal

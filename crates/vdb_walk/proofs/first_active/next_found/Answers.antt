@@ -1,8 +1,4 @@
-use Rattle.std.proofs.Common.{◌∙◌, None, Some, subst, sym}
-use Rattle.vdb_coord.specs.Space.{Box}
-use Rattle.vdb_tree.specs.Layout.{bits_of, field_of}
-use Rattle.vdb_tree.specs.Parts.{YieldsBox}
-use Rattle.vdb_walk.specs.internal.Firsts.{IsActivePast, IsFirst}
+use Rattle.vdb_walk.proofs.Common.{◌∙◌, None, Some, subst, sym, Box, bits_of, field_of, YieldsBox, IsActivePast, IsFirst}
 use Rattle.vdb_walk.proofs.PartSeeks.{first_of_all, held_is, listing_end, listing_next, none_at_end, none_in_part}
 use Rattle.vdb_walk.proofs.first_active.next_found.Goals as goal
 

@@ -1,8 +1,4 @@
-use Rattle.std.proofs.Common.{◌≡◌}
-use Rattle.std.specs.Prelude.{None}
-use Rattle.vdb_tree.specs.Layout.{bits_of}
-use Rattle.vdb_tree.specs.Parts.{left_count}
-use Rattle.vdb_walk.specs.internal.Listings.{IsListing}
+use Rattle.vdb_walk.proofs.Common.{◌≡◌, None, bits_of, left_count, IsListing}
 use Rattle.vdb_walk.proofs.first_active.next_found.Given as goal
 
 abbrev pub invariant-parts : goal.invariant-parts

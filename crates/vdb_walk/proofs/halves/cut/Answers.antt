@@ -1,6 +1,4 @@
-use Rattle.std.proofs.Common.{refl, sym, SFits, rules, w32}
-use Rattle.std.proofs.lemmas.Int.{to_z-of_z}
-use Rattle.vdb_coord.proofs.Boxes.{both}
+use Rattle.vdb_walk.proofs.Common.{refl, sym, SFits, rules, w32, to_z-of_z, both}
 use Rattle.vdb_walk.proofs.BoxOrder.{one_block, ordered_x, ordered_y, ordered_z}
 use Rattle.vdb_walk.proofs.halves.cut.Goals as goal
 

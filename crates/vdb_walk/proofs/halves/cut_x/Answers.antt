@@ -1,6 +1,4 @@
-use Rattle.std.proofs.Common.{SFits, rules, w32}
-use Rattle.std.proofs.lemmas.Int.{to_z-of_z}
-use Rattle.vdb_coord.proofs.Boxes.{both}
+use Rattle.vdb_walk.proofs.Common.{SFits, rules, w32, to_z-of_z, both}
 use Rattle.vdb_walk.proofs.BoxOrder.{inside_below_x, inside_from_x}
 use Rattle.vdb_walk.proofs.Cuts.{boxes_x, cut_x, lowered}
 use Rattle.vdb_walk.proofs.halves.cut_x.Goals as goal

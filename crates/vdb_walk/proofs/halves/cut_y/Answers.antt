@@ -1,6 +1,4 @@
-use Rattle.std.proofs.Common.{SFits, rules, w32}
-use Rattle.std.proofs.lemmas.Int.{to_z-of_z}
-use Rattle.vdb_coord.proofs.Boxes.{both}
+use Rattle.vdb_walk.proofs.Common.{SFits, rules, w32, to_z-of_z, both}
 use Rattle.vdb_walk.proofs.BoxOrder.{inside_below_y, inside_from_y}
 use Rattle.vdb_walk.proofs.Cuts.{boxes_y, cut_y, lowered}
 use Rattle.vdb_walk.proofs.halves.cut_y.Goals as goal

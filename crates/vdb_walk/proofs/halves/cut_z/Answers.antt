@@ -1,6 +1,4 @@
-use Rattle.std.proofs.Common.{SFits, rules, w32}
-use Rattle.std.proofs.lemmas.Int.{to_z-of_z}
-use Rattle.vdb_coord.proofs.Boxes.{both}
+use Rattle.vdb_walk.proofs.Common.{SFits, rules, w32, to_z-of_z, both}
 use Rattle.vdb_walk.proofs.BoxOrder.{inside_below_z, inside_from_z}
 use Rattle.vdb_walk.proofs.Cuts.{boxes_z, cut_z, lowered}
 use Rattle.vdb_walk.proofs.halves.cut_z.Goals as goal

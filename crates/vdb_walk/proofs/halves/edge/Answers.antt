@@ -1,8 +1,5 @@
 -- The edge of a block between two numbers.
-use Rattle.std.proofs.Common.{SFits, rules, w32}
-use Rattle.std.proofs.lemmas.Int.{to_z-of_z}
-use Rattle.vdb_coord.specs.Components.{first_of}
-use Rattle.vdb_coord.proofs.Meeting.{le_from_test}
+use Rattle.vdb_walk.proofs.Common.{SFits, rules, w32, to_z-of_z, first_of, le_from_test}
 use Rattle.vdb_walk.proofs.BoxOrder.{edge_between, edge_first, edge_fits}
 use Rattle.vdb_walk.proofs.halves.edge.Goals as goal
 

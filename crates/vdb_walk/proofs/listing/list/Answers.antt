@@ -1,10 +1,4 @@
-use Rattle.std.proofs.Common.{◌∙◌, ap, rules}
-use Rattle.std.specs.Prelude.{List}
-use Rattle.vdb_coord.specs.Space.{Box}
-use Rattle.vdb_coord.specs.declared.Coord.{Coord}
-use Rattle.vdb_tree.specs.Layout.{bits_of, field_of}
-use Rattle.vdb_tree.proofs.Sizes.{internal_small, leaf_small}
-use Rattle.vdb_walk.specs.Reports.{active}
+use Rattle.vdb_walk.proofs.Common.{◌∙◌, ap, rules, List, Box, Coord, bits_of, field_of, internal_small, leaf_small, active}
 use Rattle.vdb_walk.proofs.InOrder.{all_left}
 use Rattle.vdb_walk.proofs.PartSeeks.{listing_all}
 use Rattle.vdb_walk.proofs.listing.list.Goals as goal

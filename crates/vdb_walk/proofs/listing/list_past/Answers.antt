@@ -1,8 +1,4 @@
-use Rattle.std.proofs.Common.{ap, rules}
-use Rattle.vdb_coord.specs.Space.{Box}
-use Rattle.vdb_tree.specs.Layout.{bits_of, field_of}
-use Rattle.vdb_tree.proofs.Sizes.{internal_small, leaf_small}
-use Rattle.vdb_walk.specs.Reports.{active, past}
+use Rattle.vdb_walk.proofs.Common.{ap, rules, Box, bits_of, field_of, internal_small, leaf_small, active, past}
 use Rattle.vdb_walk.proofs.listing.list_past.Goals as goal
 
 pub begun-requires : goal.begun-requires

@@ -1,8 +1,4 @@
-use Rattle.std.proofs.Common.{◌∙◌, None, Option, Some, subst, sym}
-use Rattle.std.specs.Prelude.{IfSome}
-use Rattle.vdb_tree.specs.Layout.{bits_of, field_of}
-use Rattle.vdb_walk.specs.internal.Listings.{IsListing}
-use Rattle.vdb_walk.specs.declared.held.Held.{Held}
+use Rattle.vdb_walk.proofs.Common.{◌∙◌, None, Option, Some, subst, sym, IfSome, bits_of, field_of, IsListing, Held}
 use Rattle.vdb_walk.proofs.InOrder.{first_found}
 use Rattle.vdb_walk.proofs.PartSeeks.{found_in_part, listing_after, listing_past}
 use Rattle.vdb_walk.proofs.listing.yield_next.Goals as goal

@@ -1,8 +1,4 @@
-use Rattle.std.proofs.Common.{sym, ◌∙◌}
-use Rattle.vdb_coord.specs.declared.Level.TheVariants.{Upper}
-use Rattle.vdb_tree.specs.Field.{Field}
-use Rattle.vdb_tree.specs.Layout.{bits_of, field_of}
-use Rattle.vdb_tree.proofs.Uniform.{exact_by}
+use Rattle.vdb_walk.proofs.Common.{sym, ◌∙◌, Upper, Field, bits_of, field_of, exact_by}
 use Rattle.vdb_walk.proofs.NonConstantBlocks.{covered_block, upper_whole}
 use Rattle.vdb_walk.proofs.node_census.block_at.Goals as goal
 

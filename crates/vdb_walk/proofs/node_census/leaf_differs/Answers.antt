@@ -1,11 +1,6 @@
-use Rattle.std.proofs.Common.{◌≡◌, ◌∙◌, ap, refl, rules}
-use Rattle.vdb_coord.specs.Blocks.{entries}
-use Rattle.vdb_coord.specs.declared.Level.TheVariants.{Leaf}
+use Rattle.vdb_walk.proofs.Common.{◌≡◌, ◌∙◌, ap, refl, rules, entries, Leaf, bits_of, leaf_small, exact_by}
 use Rattle.vdb_coord.proofs.Meeting.{fits_everywhere}
-use Rattle.vdb_tree.specs.Layout.{bits_of}
 use Rattle.vdb_tree.proofs.Constants.{entries_some, last_ends, last_within}
-use Rattle.vdb_tree.proofs.Sizes.{leaf_small}
-use Rattle.vdb_tree.proofs.Uniform.{exact_by}
 use Rattle.vdb_walk.proofs.LeafTests.{leaf_test, same_cells}
 use Rattle.vdb_walk.proofs.node_census.leaf_differs.Goals as goal
 

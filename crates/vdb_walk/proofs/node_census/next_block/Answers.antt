@@ -1,7 +1,4 @@
-use Rattle.vdb_coord.specs.Order.{IsNextCoord}
-use Rattle.vdb_coord.specs.Space.{everywhere}
-use Rattle.vdb_tree.specs.Layout.{bits_of}
-use Rattle.vdb_tree.proofs.Uniform.{exact_by}
+use Rattle.vdb_walk.proofs.Common.{IsNextCoord, everywhere, bits_of, exact_by}
 use Rattle.vdb_walk.proofs.NonConstantBlocks.{non_constant_end, non_constant_next, nearer_next, start_next}
 use Rattle.vdb_walk.proofs.NonConstantLeaves.{leaf_nearer, leaf_start, leaves_next}
 use Rattle.vdb_walk.proofs.node_census.next_block.Goals as goal

@@ -1,11 +1,4 @@
-use Rattle.std.proofs.Common.{◌≡◌, ◌+◌, rules, subst, ap, ◌∙◌}
-use Rattle.std.specs.Prelude.{Option}
-use Rattle.vdb_coord.specs.Space.{Box}
-use Rattle.vdb_coord.specs.declared.Coord.{Coord}
-use Rattle.vdb_tree.specs.Field.{Field}
-use Rattle.vdb_tree.specs.Layout.{bits_of, field_of}
-use Rattle.vdb_tree.specs.ConstantBlocks.{non_constant}
-use Rattle.vdb_walk.specs.internal.BlocksFrom.{non_constant_from}
+use Rattle.vdb_walk.proofs.Common.{◌≡◌, ◌+◌, rules, subst, ap, ◌∙◌, Option, Box, Coord, Field, bits_of, field_of, non_constant, non_constant_from}
 use Rattle.vdb_walk.proofs.NonConstantBlocks.{all_counted, first_counted, sum_few, sum_on, sum_same}
 use Rattle.vdb_walk.proofs.node_census.non_constant_blocks.Goals as goal
 

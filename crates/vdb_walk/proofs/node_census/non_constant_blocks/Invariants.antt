@@ -1,10 +1,4 @@
-use Rattle.std.proofs.Common.{◌≡◌, ◌+◌}
-use Rattle.std.specs.Prelude.{IfSome}
-use Rattle.vdb_coord.specs.Space.{everywhere}
-use Rattle.vdb_tree.specs.Layout.{bits_of, field_of}
-use Rattle.vdb_tree.specs.Parts.{left_count}
-use Rattle.vdb_tree.specs.ConstantBlocks.{non_constant}
-use Rattle.vdb_walk.specs.internal.BlocksFrom.{IsBoxStart, non_constant_from}
+use Rattle.vdb_walk.proofs.Common.{◌≡◌, ◌+◌, IfSome, everywhere, bits_of, field_of, left_count, non_constant, IsBoxStart, non_constant_from}
 use Rattle.vdb_walk.proofs.node_census.non_constant_blocks.Given as goal
 
 abbrev pub invariant-starts : goal.invariant-starts

@@ -1,6 +1,4 @@
-use Rattle.std.proofs.Common.{◌∙◌, sym}
-use Rattle.vdb_coord.proofs.Boxes.{both}
-use Rattle.vdb_walk.specs.internal.Firsts.{IsPastLast}
+use Rattle.vdb_walk.proofs.Common.{◌∙◌, sym, both, IsPastLast}
 use Rattle.vdb_walk.proofs.Firsts.{first_at_min, none_past, of_first, of_second}
 use Rattle.vdb_walk.proofs.order.+first_beyond.Goals as goal
 

@@ -1,8 +1,4 @@
-use Rattle.std.proofs.Common.{◌≡◌, ◌∙◌, false, refl, sym, true}
-use Rattle.vdb_coord.specs.Blocks.{block_number}
-use Rattle.vdb_coord.specs.declared.Level.TheVariants.{Leaf}
-use Rattle.vdb_coord.proofs.Boxes.{and_true}
-use Rattle.vdb_coord.proofs.Nesting.{inside_numbered}
+use Rattle.vdb_walk.proofs.Common.{◌≡◌, ◌∙◌, false, refl, sym, true, block_number, Leaf, and_true, inside_numbered}
 use Rattle.vdb_walk.proofs.NextVoxels.{near_itself, next_is_first, coord_is_first}
 use Rattle.vdb_walk.proofs.order.next_in.Goals as goal
 

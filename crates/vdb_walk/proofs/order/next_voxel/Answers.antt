@@ -1,6 +1,5 @@
-use Rattle.std.proofs.Common.{◌≡◌, ◌+ℤ◌, ◌<ℤ◌, ◌≤ℤ◌, SFits, arith, of_z, pos, rules, to_z, true, false, w32, ℤ}
+use Rattle.vdb_walk.proofs.Common.{◌≡◌, ◌+ℤ◌, ◌<ℤ◌, ◌≤ℤ◌, SFits, arith, of_z, pos, rules, to_z, true, false, w32, ℤ, ints, to_z-of_z}
 use lib.Signed.{lt_z}
-use Rattle.std.proofs.lemmas.Int.{ints, to_z-of_z}
 use Rattle.vdb_walk.proofs.NextVoxels.{next_x, next_y, next_z, no_next}
 use Rattle.vdb_walk.proofs.order.next_voxel.Goals as goal
 

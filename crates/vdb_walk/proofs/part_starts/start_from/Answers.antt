@@ -1,5 +1,4 @@
-use Rattle.std.proofs.Common.{sym, ◌∙◌}
-use Rattle.vdb_tree.specs.Layout.{bits_of}
+use Rattle.vdb_walk.proofs.Common.{sym, ◌∙◌, bits_of}
 use Rattle.vdb_walk.proofs.SkippedParts.{skipped_all, skipped_here, skipped_there}
 use Rattle.vdb_walk.proofs.part_starts.start_from.Goals as goal
 

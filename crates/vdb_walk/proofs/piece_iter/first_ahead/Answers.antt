@@ -1,9 +1,4 @@
-use Rattle.std.proofs.Common.{sym, subst}
-use Rattle.std.specs.Prelude.{Option}
-use Rattle.vdb_coord.specs.Space.{everywhere}
-use Rattle.vdb_coord.specs.declared.Coord.{Coord}
-use Rattle.vdb_tree.specs.Layout.{bits_of}
-use Rattle.vdb_walk.specs.internal.Firsts.{IsEnteredPast, IsFirst}
+use Rattle.vdb_walk.proofs.Common.{sym, subst, Option, everywhere, Coord, bits_of, IsEnteredPast, IsFirst}
 use Rattle.vdb_walk.proofs.PiecesInTurn.{all_ahead}
 use Rattle.vdb_walk.proofs.piece_iter.first_ahead.Goals as goal
 

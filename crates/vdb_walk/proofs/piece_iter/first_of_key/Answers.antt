@@ -1,6 +1,4 @@
-use Rattle.std.proofs.Common.{◌∙◌, ap}
-use Rattle.vdb_coord.specs.Space.{Box}
-use Rattle.vdb_tree.specs.Layout.{bits_of}
+use Rattle.vdb_walk.proofs.Common.{◌∙◌, ap, Box, bits_of}
 use Rattle.vdb_walk.proofs.PiecesInTurn.{first_of_key, none_of_key}
 use Rattle.vdb_walk.proofs.piece_iter.first_of_key.Goals as goal
 

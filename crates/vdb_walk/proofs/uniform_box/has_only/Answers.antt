@@ -1,7 +1,4 @@
-use Rattle.std.proofs.Common.{ap, sym, ◌∙◌}
-use Rattle.vdb_tree.specs.Field.{Field, off}
-use Rattle.vdb_tree.specs.Layout.{bits_of, field_of}
-use Rattle.vdb_tree.proofs.Uniform.{cell_exact, exact_by}
+use Rattle.vdb_walk.proofs.Common.{ap, sym, ◌∙◌, Field, off, bits_of, field_of, cell_exact, exact_by}
 use Rattle.vdb_walk.proofs.PartCells.{background_uniform, exact_test, rooted_uniform}
 use Rattle.vdb_walk.proofs.uniform_box.has_only.Goals as goal
 

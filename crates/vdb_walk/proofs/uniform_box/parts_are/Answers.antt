@@ -1,5 +1,4 @@
-use Rattle.std.proofs.Common.{rules}
-use Rattle.vdb_tree.proofs.Sizes.{internal_small, leaf_small}
+use Rattle.vdb_walk.proofs.Common.{rules, internal_small, leaf_small}
 use Rattle.vdb_walk.proofs.uniform_box.parts_are.Goals as goal
 
 pub parts-walk-requires : goal.parts-walk-requires

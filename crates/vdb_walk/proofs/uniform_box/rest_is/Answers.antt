@@ -1,7 +1,4 @@
-use Rattle.std.proofs.Common.{refl, sym, ◌∙◌}
-use Rattle.vdb_tree.specs.Field.{Field}
-use Rattle.vdb_tree.specs.Layout.{bits_of, field_of}
-use Rattle.vdb_tree.proofs.Uniform.{exact_by, uniform_cells}
+use Rattle.vdb_walk.proofs.Common.{refl, sym, ◌∙◌, Field, bits_of, field_of, exact_by, uniform_cells}
 use Rattle.vdb_walk.proofs.PartCells.{gone_end, gone_next, gone_start, part_differs, part_within}
 use Rattle.vdb_walk.proofs.uniform_box.rest_is.Goals as goal
 

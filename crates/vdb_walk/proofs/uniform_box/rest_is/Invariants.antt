@@ -1,5 +1,4 @@
-use Rattle.vdb_tree.specs.Layout.{bits_of}
-use Rattle.vdb_tree.specs.Parts.{IsWalk, left_count}
+use Rattle.vdb_walk.proofs.Common.{bits_of, IsWalk, left_count}
 use Rattle.vdb_walk.proofs.PartCells.{IsGone}
 use Rattle.vdb_walk.proofs.uniform_box.rest_is.Given as goal
 

@@ -1,7 +1,4 @@
-use Rattle.vdb_coord.proofs.Boxes.{both}
-use Rattle.vdb_tree.specs.Field.{Field}
-use Rattle.vdb_tree.specs.Layout.{bits_of, field_of}
-use Rattle.vdb_tree.proofs.Uniform.{exact_by}
+use Rattle.vdb_walk.proofs.Common.{both, Field, bits_of, field_of, exact_by}
 use Rattle.vdb_walk.proofs.PartCells.{have_all, have_next, have_none, other_voxel, same_voxel}
 use Rattle.vdb_walk.proofs.uniform_box.roots_have.Goals as goal
 

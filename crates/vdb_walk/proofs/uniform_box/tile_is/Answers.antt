@@ -1,8 +1,4 @@
-use Rattle.vdb_coord.proofs.Boxes.{both}
-use Rattle.vdb_coord.proofs.Walk.{min_inside}
-use Rattle.vdb_tree.specs.Field.{Field}
-use Rattle.vdb_tree.specs.Layout.{bits_of, field_of}
-use Rattle.vdb_tree.proofs.Uniform.{exact_by}
+use Rattle.vdb_walk.proofs.Common.{both, min_inside, Field, bits_of, field_of, exact_by}
 use Rattle.vdb_walk.proofs.PartCells.{tile_uniform}
 use Rattle.vdb_walk.proofs.uniform_box.tile_is.Goals as goal
 

@@ -1,7 +1,4 @@
-use Rattle.std.proofs.Common.{◌∙◌, ap, sym}
-use Rattle.vdb_tree.specs.Field.{Field}
-use Rattle.vdb_tree.specs.Layout.{bits_of, field_of}
-use Rattle.vdb_tree.specs.ConstantBlocks.{is_uniform}
+use Rattle.vdb_walk.proofs.Common.{◌∙◌, ap, sym, Field, bits_of, field_of, is_uniform}
 use Rattle.vdb_walk.proofs.uniform_box.uniform.Goals as goal
 
 pub returns-then-has_only-clause-some : goal.returns-then-has_only-clause-some

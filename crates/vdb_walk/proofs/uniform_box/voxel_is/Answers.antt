@@ -1,12 +1,4 @@
-use Rattle.std.proofs.Common.{◌∙◌, ap}
-use Rattle.vdb_coord.specs.Space.{Box}
-use Rattle.vdb_coord.specs.declared.Level.TheVariants.{Leaf}
-use Rattle.vdb_coord.proofs.Boxes.{both}
-use Rattle.vdb_coord.proofs.Positions.{entries_is}
-use Rattle.vdb_tree.specs.Field.{Field}
-use Rattle.vdb_tree.specs.Layout.{bits_of, field_of}
-use Rattle.vdb_tree.proofs.Sizes.{leaf_small}
-use Rattle.vdb_tree.proofs.Uniform.{exact_by}
+use Rattle.vdb_walk.proofs.Common.{◌∙◌, ap, Box, Leaf, both, entries_is, Field, bits_of, field_of, leaf_small, exact_by}
 use Rattle.vdb_walk.proofs.PartCells.{beside, voxel_test}
 use Rattle.vdb_walk.proofs.uniform_box.voxel_is.Goals as goal
 

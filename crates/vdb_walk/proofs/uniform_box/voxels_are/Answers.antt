@@ -1,10 +1,4 @@
-use Rattle.std.proofs.Common.{◌≡◌, ◌≤◌, ◌∙◌, ℕ, ap, subst}
-use Rattle.vdb_coord.specs.Blocks.{entries}
-use Rattle.vdb_coord.specs.declared.Bits.{Bits}
-use Rattle.vdb_coord.specs.declared.Level.TheVariants.{Leaf}
-use Rattle.vdb_tree.specs.Field.{Field}
-use Rattle.vdb_tree.specs.Layout.{bits_of, field_of}
-use Rattle.vdb_tree.proofs.Uniform.{exact_by}
+use Rattle.vdb_walk.proofs.Common.{◌≡◌, ◌≤◌, ◌∙◌, ℕ, ap, subst, entries, Bits, Leaf, Field, bits_of, field_of, exact_by}
 use Rattle.vdb_walk.proofs.PartCells.{cell_below_all, cell_below_next, cell_below_none, entry_other}
 use Rattle.vdb_walk.proofs.uniform_box.voxels_are.Goals as goal
 

@@ -1,7 +1,5 @@
 -- A run along z from p ends at the lesser of the boxes' ends.
-use Rattle.std.proofs.Common.{◌≡◌, SFits, w32, rules, arith, unsigned_abs, ◌-ℤ◌}
-use Rattle.std.specs.Int.{int_min}
-use Rattle.std.proofs.lemmas.Int.{to_z-of_z}
+use Rattle.vdb_walk.proofs.Common.{◌≡◌, SFits, w32, rules, arith, unsigned_abs, ◌-ℤ◌, int_min, to_z-of_z}
 use Rattle.vdb_walk.proofs.voxels.past_run.Goals as goal
 
 pub returns-clause-run : goal.returns-clause-run

@@ -1,7 +1,5 @@
 -- The positions of an entry make its voxel.
-use Rattle.std.proofs.Common.{SFits, w32, rules}
-use Rattle.std.proofs.lemmas.Int.{to_z-of_z}
-use Rattle.vdb_coord.specs.declared.Level.TheVariants.{Leaf}
+use Rattle.vdb_walk.proofs.Common.{SFits, w32, rules, to_z-of_z, Leaf}
 use Rattle.vdb_coord.proofs.Positions.{index_positions}
 use Rattle.vdb_walk.proofs.VoxelRows.{voxel_positions}
 use Rattle.vdb_walk.proofs.voxels.voxel_at.Goals as goal

@@ -1,10 +1,5 @@
-use Rattle.std.proofs.Common.{refl}
-use Rattle.vdb_coord.specs.Blocks.{vdb}
-use Rattle.vdb_tree.specs.Layout.{field_of}
-use Rattle.vdb_value.specs.declared.Cell.{Cell}
-use Rattle.vdb_scene.specs.declared.scalar.Scalar.{Scalar}
+use Rattle.vdb_c.proofs.Common.{refl, vdb, field_of, Cell, Scalar, state_byte, value_number}
 use Rattle.vdb_scene.specs.declared.scalar.Scalar.TheVariants as scalars
-use Rattle.vdb_c.specs.Values.{state_byte, value_number}
 use Rattle.vdb_c.proofs.BoxReads.{laid_as}
 use Rattle.vdb_c.proofs.boxes.arrays.read.Goals as goal
 

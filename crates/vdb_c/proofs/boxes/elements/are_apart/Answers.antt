@@ -1,8 +1,4 @@
-use Rattle.std.proofs.Common.{◌≡◌, ◌∙◌, ◌*◌, ◌<◌, ◌≤◌, ℕ, ap, subst, sym, IsTrue, int_le}
-use Rattle.std.specs.Int.{int_gap}
-use Rattle.std.specs.Prelude.{nat_le}
-use Rattle.vdb_coord.specs.Space.{extent}
-use Rattle.vdb_coord.specs.declared.Coord.{Coord}
+use Rattle.vdb_c.proofs.Common.{◌≡◌, ◌∙◌, ◌*◌, ◌<◌, ◌≤◌, ℕ, ap, subst, sym, IsTrue, int_le, int_gap, nat_le, extent, Coord}
 use Rattle.vdb_c.proofs.Places.{by_plane, extent_is, long_row, no_stride, ordered}
 use Rattle.vdb_c.proofs.boxes.elements.are_apart.Goals as goal
 

@@ -1,6 +1,4 @@
-use Rattle.std.proofs.Common.{◌∙◌, ◌+◌, ◌*◌, ℕ, ap, subst, sym, IsTrue, int_le}
-use Rattle.std.specs.Int.{int_gap}
-use Rattle.vdb_coord.specs.declared.Coord.{Coord}
+use Rattle.vdb_c.proofs.Common.{◌∙◌, ◌+◌, ◌*◌, ℕ, ap, subst, sym, IsTrue, int_le, int_gap, Coord}
 use Rattle.vdb_c.proofs.Places.{by_place, ordered}
 use Rattle.vdb_c.proofs.boxes.elements.has_places.Goals as goal
 

@@ -1,6 +1,4 @@
-use Rattle.std.proofs.Common.{◌∙◌, ap, subst, sym, IsTrue, int_le, arith}
-use Rattle.std.specs.Int.{int_gap}
-use Rattle.vdb_coord.specs.declared.Coord.{Coord}
+use Rattle.vdb_c.proofs.Common.{◌∙◌, ap, subst, sym, IsTrue, int_le, arith, int_gap, Coord}
 use Rattle.vdb_c.proofs.Places.{above, parts}
 use Rattle.vdb_c.proofs.boxes.elements.place.Goals as goal
 

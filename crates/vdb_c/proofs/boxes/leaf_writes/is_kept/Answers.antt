@@ -1,11 +1,5 @@
-use Rattle.std.proofs.Common.{◌∙◌, ap, inl, inr, refl, subst, sym}
-use Rattle.vdb_coord.specs.declared.Coord.{Coord}
-use Rattle.vdb_coord.proofs.Boxes.{both}
-use Rattle.vdb_coord.proofs.Walk.{min_inside}
+use Rattle.vdb_c.proofs.Common.{◌∙◌, ap, inl, inr, refl, subst, sym, Coord, both, min_inside, change_of_voxel, IsWritten, change_at}
 use Rattle.vdb_tree.proofs.Uniform.{cell_exact, exact_by}
-use Rattle.vdb_c.specs.BoxWrites.{change_of_voxel}
-use Rattle.vdb_c.specs.LeafWrites.{IsWritten}
-use Rattle.vdb_c.specs.Many.{change_at}
 use Rattle.vdb_c.proofs.LeafFields.{kept_by, not_unlike}
 use Rattle.vdb_c.proofs.Laid.{false_true}
 use Rattle.vdb_c.proofs.NextVoxels.{none, up_to_min}

@@ -1,9 +1,4 @@
-use Rattle.std.proofs.Common.{IsTrue}
-use Rattle.vdb_coord.specs.Space.{is_inside}
-use Rattle.vdb_coord.specs.Walk.{IsBefore, coordinates_after}
-use Rattle.vdb_coord.specs.declared.Coord.{Coord}
-use Rattle.vdb_c.specs.BoxWrites.{change_of_voxel}
-use Rattle.vdb_c.specs.LeafWrites.{IsWritten}
+use Rattle.vdb_c.proofs.Common.{IsTrue, is_inside, IsBefore, coordinates_after, Coord, change_of_voxel, IsWritten}
 use Rattle.vdb_c.proofs.boxes.leaf_writes.is_kept.Given as goal
 
 abbrev pub invariant-voxels : goal.invariant-voxels

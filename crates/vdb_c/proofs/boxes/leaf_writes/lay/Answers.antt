@@ -1,8 +1,4 @@
-use Rattle.std.proofs.Common.{◌∙◌, ◌+◌, ◌<◌, ◌^◌, ap, arith, rules, SFits, w32}
-use Rattle.std.proofs.lemmas.Int.{to_z-of_z}
-use Rattle.vdb_coord.proofs.Boxes.{both}
-use Rattle.vdb_coord.proofs.Walk.{min_inside}
-use Rattle.vdb_c.specs.Elements.{place}
+use Rattle.vdb_c.proofs.Common.{◌∙◌, ◌+◌, ◌<◌, ◌^◌, ap, arith, rules, SFits, w32, to_z-of_z, both, min_inside, place}
 use Rattle.vdb_c.proofs.LeafFields.{laid_at_first, laid_last, laid_on}
 use Rattle.vdb_c.proofs.Places.{next_along}
 use Rattle.vdb_c.proofs.RowsLaid.{further, further_fits, moved, same_next}

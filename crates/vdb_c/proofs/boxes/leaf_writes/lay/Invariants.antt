@@ -1,6 +1,4 @@
-use Rattle.std.proofs.Common.{◌≤◌}
-use Rattle.vdb_coord.specs.Walk.{coordinates_after}
-use Rattle.vdb_c.specs.Many.{change_at}
+use Rattle.vdb_c.proofs.Common.{◌≤◌, coordinates_after, change_at}
 use Rattle.vdb_c.proofs.LeafFields.{AreLaidUpTo}
 use Rattle.vdb_c.proofs.boxes.leaf_writes.lay.Given as goal
 

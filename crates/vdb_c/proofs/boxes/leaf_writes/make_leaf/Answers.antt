@@ -1,12 +1,4 @@
-use Rattle.std.proofs.Common.{◌≡◌, ◌∙◌, false, inl, inr, subst, sym, ◌&&◌, IsTrue}
-use Rattle.vdb_coord.specs.Blocks.{vdb}
-use Rattle.vdb_coord.specs.Space.{Box, is_inside}
-use Rattle.vdb_coord.specs.declared.Coord.{Coord}
-use Rattle.vdb_tree.specs.Layout.{field_of}
-use Rattle.vdb_tree.specs.Paths.{in_leaf}
-use Rattle.vdb_value.specs.declared.Cell.{Cell}
-use Rattle.vdb_c.specs.BoxWrites.{change_of_voxel}
-use Rattle.vdb_c.specs.LeafWrites.{IsWritten}
+use Rattle.vdb_c.proofs.Common.{◌≡◌, ◌∙◌, false, inl, inr, subst, sym, ◌&&◌, IsTrue, vdb, Box, is_inside, Coord, field_of, in_leaf, Cell, change_of_voxel, IsWritten}
 use Rattle.vdb_c.proofs.LeafFields.{beside_part, leaf_beside, no_part, of_ok, part_beside}
 use Rattle.vdb_c.proofs.boxes.leaf_writes.make_leaf.Goals as goal
 

@@ -1,10 +1,4 @@
-use Rattle.std.proofs.Common.{◌∙◌, inl, inr, refl, subst}
-use Rattle.vdb_coord.specs.Blocks.{vdb}
-use Rattle.vdb_coord.specs.Walk.{IsBlockBefore}
-use Rattle.vdb_coord.specs.declared.Level.TheVariants.{Leaf}
-use Rattle.vdb_coord.proofs.Boxes.{both}
-use Rattle.vdb_coord.proofs.Walk.{min_inside, none_before}
-use Rattle.vdb_c.specs.BoxWrites.{change_of_voxel}
+use Rattle.vdb_c.proofs.Common.{◌∙◌, inl, inr, refl, subst, vdb, IsBlockBefore, Leaf, both, min_inside, none_before, change_of_voxel}
 use Rattle.vdb_c.proofs.LeafFields.{ready_kept}
 use Rattle.vdb_c.proofs.boxes.leaf_writes.make_leaves.Goals as goal
 

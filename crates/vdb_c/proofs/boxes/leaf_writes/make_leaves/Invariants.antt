@@ -1,12 +1,4 @@
-use Rattle.std.proofs.Common.{◌≡◌, IsTrue}
-use Rattle.vdb_coord.specs.Blocks.{vdb}
-use Rattle.vdb_coord.specs.Space.{is_inside}
-use Rattle.vdb_coord.specs.Walk.{IsBlockBefore, coordinates_after}
-use Rattle.vdb_coord.specs.declared.Coord.{Coord}
-use Rattle.vdb_coord.specs.declared.Level.TheVariants.{Leaf}
-use Rattle.vdb_tree.specs.Layout.{field_of}
-use Rattle.vdb_c.specs.BoxWrites.{change_of_voxel}
-use Rattle.vdb_c.specs.LeafWrites.{IsReady}
+use Rattle.vdb_c.proofs.Common.{◌≡◌, IsTrue, vdb, is_inside, IsBlockBefore, coordinates_after, Coord, Leaf, field_of, change_of_voxel, IsReady}
 use Rattle.vdb_c.proofs.boxes.leaf_writes.make_leaves.Given as goal
 
 abbrev pub invariant-leaves : goal.invariant-leaves

@@ -1,7 +1,4 @@
-use Rattle.std.proofs.Common.{◌∙◌, refl, rules}
-use Rattle.vdb_coord.proofs.Boxes.{both}
-use Rattle.vdb_coord.proofs.Walk.{min_inside}
-use Rattle.vdb_c.specs.BoxWrites.{change_of_voxel}
+use Rattle.vdb_c.proofs.Common.{◌∙◌, refl, rules, both, min_inside, change_of_voxel}
 use Rattle.vdb_c.proofs.LeafFields.{ready_after, written_first, written_last, written_next}
 use Rattle.vdb_c.proofs.boxes.leaf_writes.write_each.Goals as goal
 

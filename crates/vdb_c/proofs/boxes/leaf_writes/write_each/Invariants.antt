@@ -1,12 +1,4 @@
-use Rattle.std.proofs.Common.{◌≡◌, IsTrue}
-use Rattle.vdb_coord.specs.Blocks.{vdb}
-use Rattle.vdb_coord.specs.Space.{is_inside}
-use Rattle.vdb_coord.specs.Walk.{coordinates_after}
-use Rattle.vdb_coord.specs.declared.Coord.{Coord}
-use Rattle.vdb_tree.specs.Layout.{field_of}
-use Rattle.vdb_tree.specs.Paths.{in_leaf}
-use Rattle.vdb_c.specs.BoxWrites.{change_of_voxel}
-use Rattle.vdb_c.specs.LeafWrites.{AreWritten}
+use Rattle.vdb_c.proofs.Common.{◌≡◌, IsTrue, vdb, is_inside, coordinates_after, Coord, field_of, in_leaf, change_of_voxel, AreWritten}
 use Rattle.vdb_c.proofs.LeafFields.{Before}
 use Rattle.vdb_c.proofs.boxes.leaf_writes.write_each.Given as goal
 

@@ -1,13 +1,5 @@
-use Rattle.std.proofs.Common.{◌≡◌, ◌∙◌, false, subst, sym, true, ◌&&◌, IsTrue}
-use Rattle.vdb_coord.specs.Blocks.{vdb}
-use Rattle.vdb_coord.specs.Space.{Box, is_inside}
-use Rattle.vdb_coord.specs.declared.Coord.{Coord}
+use Rattle.vdb_c.proofs.Common.{◌≡◌, ◌∙◌, false, subst, sym, true, ◌&&◌, IsTrue, vdb, Box, is_inside, Coord, field_of, IsLeafAround, in_leaf, change_of_voxel, AreLaid, AreWritten, IsBeside}
 use Rattle.vdb_node.specs.Leaf.{Leaf}
-use Rattle.vdb_tree.specs.Layout.{field_of}
-use Rattle.vdb_tree.specs.Leaves.{IsLeafAround}
-use Rattle.vdb_tree.specs.Paths.{in_leaf}
-use Rattle.vdb_c.specs.BoxWrites.{change_of_voxel}
-use Rattle.vdb_c.specs.LeafWrites.{AreLaid, AreWritten, IsBeside}
 use Rattle.vdb_c.proofs.LeafFields.{beside_part, leaf_written, no_part, part_beside, part_block, without_leaf, without_voxel}
 use Rattle.vdb_c.proofs.boxes.leaf_writes.write_leaf.Goals as goal
 

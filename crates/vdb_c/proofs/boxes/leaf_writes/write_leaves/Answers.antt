@@ -1,7 +1,4 @@
-use Rattle.std.proofs.Common.{◌∙◌, ap}
-use Rattle.vdb_tree.specs.Field.{Field, as_field_of}
-use Rattle.vdb_coord.specs.Space.{is_inside}
-use Rattle.vdb_c.specs.BoxWrites.{change_of_voxel, with_writes}
+use Rattle.vdb_c.proofs.Common.{◌∙◌, ap, Field, as_field_of, is_inside, change_of_voxel, with_writes}
 use Rattle.vdb_c.proofs.LeafFields.{as_written}
 use Rattle.vdb_c.proofs.boxes.leaf_writes.write_leaves.Goals as goal
 

@@ -1,13 +1,8 @@
-use Rattle.std.proofs.Common.{◌≡◌, ◌∙◌, ap, subst, sym, true, IsTrue}
-use Rattle.std.specs.Prelude.{IsSome}
-use Rattle.vdb_coord.specs.Blocks.{block, block_numbers, key, vdb}
-use Rattle.vdb_coord.specs.Space.{Box, is_inside, is_within}
+use Rattle.vdb_c.proofs.Common.{◌≡◌, ◌∙◌, ap, subst, sym, true, IsTrue, IsSome, key, vdb, Box, is_inside, is_within, Coord, number_in_block, root_at}
+use Rattle.vdb_coord.specs.Blocks.{block, block_numbers}
 use Rattle.vdb_coord.specs.declared.Bits.{Bits}
-use Rattle.vdb_coord.specs.declared.Coord.{Coord}
 use Rattle.vdb_coord.specs.declared.Level.TheVariants.{Upper}
 use Rattle.vdb_coord.proofs.Meeting.{within_each}
-use Rattle.vdb_coord.proofs.Nesting.{number_in_block}
-use Rattle.vdb_tree.specs.Layout.{root_at}
 use Rattle.vdb_c.proofs.boxes.reading.is_in_root_block.Goals as goal
 
 pub numbered_block_in-requires-clause-within : goal.numbered_block_in-requires-clause-within

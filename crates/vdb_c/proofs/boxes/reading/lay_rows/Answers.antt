@@ -1,7 +1,4 @@
-use Rattle.std.proofs.Common.{refl, rules, SFits, w32}
-use Rattle.vdb_coord.proofs.Boxes.{both}
-use Rattle.vdb_coord.proofs.Walk.{min_inside}
-use Rattle.vdb_node.specs.Leaf.{cell_in}
+use Rattle.vdb_c.proofs.Common.{refl, rules, SFits, w32, both, min_inside, cell_in}
 use Rattle.vdb_c.proofs.CopiedRows.{row_copied, row_in_leaf, row_keeps_size, row_room, rows_all, rows_next, rows_none}
 use Rattle.vdb_c.proofs.RowFields.{fewer_after}
 use Rattle.vdb_c.proofs.boxes.reading.lay_rows.Goals as goal

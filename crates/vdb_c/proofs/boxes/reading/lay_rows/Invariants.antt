@@ -1,12 +1,5 @@
-use Rattle.std.proofs.Common.{◌≡◌, IsTrue, length}
-use Rattle.vdb_coord.specs.Blocks.{offset, vdb}
-use Rattle.vdb_coord.specs.Space.{is_inside}
-use Rattle.vdb_coord.specs.Walk.{coordinates_after}
+use Rattle.vdb_c.proofs.Common.{◌≡◌, IsTrue, length, offset, vdb, is_inside, coordinates_after, cell_in, Cell, is_first, rank, IsLaid}
 use Rattle.vdb_coord.specs.declared.Level.TheVariants.{Leaf as leaf_level}
-use Rattle.vdb_node.specs.Leaf.{cell_in}
-use Rattle.vdb_value.specs.declared.Cell.{Cell}
-use Rattle.vdb_c.specs.BoxWrites.{is_first, rank}
-use Rattle.vdb_c.specs.Elements.{IsLaid}
 use Rattle.vdb_c.proofs.boxes.reading.lay_rows.Given as goal
 
 abbrev pub invariant-rows : goal.invariant-rows

@@ -1,5 +1,4 @@
-use Rattle.std.proofs.Common.{◌≡◌, ap, refl, Bool, true, false, ◌&&◌}
-use Rattle.vdb_tree.specs.Field.{off}
+use Rattle.vdb_c.proofs.Common.{◌≡◌, ap, refl, Bool, true, false, ◌&&◌, off}
 use Rattle.vdb_c.proofs.Laid.{laid_none, laid_same, laid_within}
 use Rattle.vdb_c.proofs.boxes.reading.lay_start.Goals as goal
 

@@ -1,9 +1,4 @@
-use Rattle.std.proofs.Common.{subst, sym}
-use Rattle.vdb_coord.specs.Space.{is_inside}
-use Rattle.vdb_node.specs.Leaf.{cell_in}
-use Rattle.vdb_coord.specs.Blocks.{vdb}
-use Rattle.vdb_tree.specs.Parts.{content_cell}
-use Rattle.vdb_c.specs.Elements.{IsLaid}
+use Rattle.vdb_c.proofs.Common.{subst, sym, is_inside, cell_in, vdb, content_cell, IsLaid}
 use Rattle.vdb_c.proofs.boxes.reading.lay_values.Goals as goal
 
 pub returns-in-Leaf : goal.returns-in-Leaf

@@ -1,9 +1,4 @@
-use Rattle.std.proofs.Common.{◌∙◌, ◌+◌, ap, arith, rules, sym, SFits, w32}
-use Rattle.std.proofs.lemmas.Int.{to_z-of_z}
-use Rattle.vdb_coord.proofs.Boxes.{both}
-use Rattle.vdb_coord.proofs.Walk.{min_inside}
-use Rattle.vdb_value.specs.declared.Cell.{Cell}
-use Rattle.vdb_c.specs.Elements.{place}
+use Rattle.vdb_c.proofs.Common.{◌∙◌, ◌+◌, ap, arith, rules, sym, SFits, w32, to_z-of_z, both, min_inside, Cell, place}
 use Rattle.vdb_c.proofs.Places.{next_along}
 use Rattle.vdb_c.proofs.RowsLaid.{further, further_fits, laid_at_first, laid_last, laid_on, moved, same_next}
 use Rattle.vdb_c.proofs.boxes.reading.lay_voxels.Goals as goal

@@ -1,9 +1,4 @@
-use Rattle.std.proofs.Common.{◌≤◌}
-use Rattle.vdb_coord.specs.Walk.{coordinates_after}
-use Rattle.vdb_node.specs.Leaf.{cell_in}
-use Rattle.vdb_value.specs.declared.Cell.{Cell}
-use Rattle.vdb_coord.specs.Blocks.{vdb}
-use Rattle.vdb_tree.specs.Parts.{content_cell}
+use Rattle.vdb_c.proofs.Common.{◌≤◌, coordinates_after, cell_in, Cell, vdb, content_cell}
 use Rattle.vdb_c.proofs.RowsLaid.{AreLaidUpTo}
 use Rattle.vdb_c.proofs.boxes.reading.lay_voxels.Given as goal
 

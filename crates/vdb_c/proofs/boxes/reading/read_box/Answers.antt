@@ -1,12 +1,5 @@
-use Rattle.std.proofs.Common.{◌∙◌, ap, refl, subst, sym, IsTrue, ℕ}
-use Rattle.vdb_coord.specs.Blocks.{vdb}
-use Rattle.vdb_coord.specs.Space.{Box, is_inside}
-use Rattle.vdb_tree.specs.Field.{off}
-use Rattle.vdb_tree.specs.Layout.{field_of}
-use Rattle.vdb_tree.specs.Parts.{IsInOneLeaf, IsPartOfLeaf}
-use Rattle.vdb_value.specs.declared.Cell.{Cell}
+use Rattle.vdb_c.proofs.Common.{◌∙◌, ap, refl, subst, sym, IsTrue, ℕ, vdb, Box, is_inside, off, field_of, IsInOneLeaf, IsPartOfLeaf, Cell, state_byte}
 use Rattle.vdb_c.specs.Elements.{has_places}
-use Rattle.vdb_c.specs.Values.{state_byte}
 use Rattle.vdb_c.proofs.PartsRead.{content_is, on_leaf, read_end, read_next, read_start}
 use Rattle.vdb_c.proofs.boxes.reading.read_box.Goals as goal
 

@@ -1,9 +1,5 @@
-use Rattle.std.proofs.Common.{◌≡◌}
-use Rattle.vdb_coord.specs.Blocks.{vdb}
+use Rattle.vdb_c.proofs.Common.{◌≡◌, vdb, Absent, IsLaid, state_byte}
 use Rattle.vdb_tree.specs.Parts.{IsWalk, left_count}
-use Rattle.vdb_tree.specs.declared.queries.parts.Skip.TheVariants.{Absent}
-use Rattle.vdb_c.specs.Elements.{IsLaid}
-use Rattle.vdb_c.specs.Values.{state_byte}
 use Rattle.vdb_c.proofs.PartsRead.{done, so_far}
 use Rattle.vdb_c.proofs.boxes.reading.read_box.Given as goal
 

@@ -1,5 +1,4 @@
-use Rattle.std.proofs.Common.{subst, sym, IsTrue, int_le}
-use Rattle.vdb_coord.specs.declared.Coord.{Coord}
+use Rattle.vdb_c.proofs.Common.{subst, sym, IsTrue, int_le, Coord}
 use Rattle.vdb_c.proofs.Places.{ordered}
 use Rattle.vdb_c.proofs.boxes.voxels.is_wide.Goals as goal
 

@@ -1,6 +1,4 @@
-use Rattle.std.proofs.Common.{◌∙◌, refl, ap, subst, pos, ◌+ℤ◌, ◌<ℤ◌, ◌≤ℤ◌, SFits, w32, to_z, of_z, rules}
-use Rattle.std.proofs.lemmas.Int.{to_z-of_z}
-use Rattle.vdb_coord.specs.declared.Coord.{Coord}
+use Rattle.vdb_c.proofs.Common.{◌∙◌, refl, ap, subst, pos, ◌+ℤ◌, ◌<ℤ◌, ◌≤ℤ◌, SFits, w32, to_z, of_z, rules, to_z-of_z, Coord}
 use Rattle.vdb_c.proofs.NextVoxels.{below, moved_x, moved_y, moved_z, no_next, not_below, one_more, one_more_fits}
 use Rattle.vdb_c.proofs.boxes.voxels.next_voxel.Goals as goal
 

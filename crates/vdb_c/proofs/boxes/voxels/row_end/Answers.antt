@@ -1,7 +1,4 @@
-use Rattle.std.proofs.Common.{subst, sym, rules, IsTrue, SFits, w32}
-use Rattle.std.proofs.lemmas.Int.{to_z-of_z}
-use Rattle.vdb_coord.specs.Space.{coord, is_inside}
-use Rattle.vdb_coord.specs.declared.Coord.{Coord}
+use Rattle.vdb_c.proofs.Common.{subst, sym, rules, IsTrue, SFits, w32, to_z-of_z, coord, is_inside, Coord}
 use Rattle.vdb_c.proofs.RowFields.{end_inside}
 use Rattle.vdb_c.proofs.boxes.voxels.row_end.Goals as goal
 

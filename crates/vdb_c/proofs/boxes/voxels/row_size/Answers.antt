@@ -1,7 +1,4 @@
-use Rattle.std.proofs.Common.{◌+◌, ◌∙◌, ℕ, ap, subst, sym, rules, IsTrue, SFits, w32, int_le}
-use Rattle.std.specs.Int.{int_gap}
-use Rattle.std.proofs.lemmas.Int.{to_z-of_z}
-use Rattle.vdb_coord.specs.declared.Coord.{Coord}
+use Rattle.vdb_c.proofs.Common.{◌+◌, ◌∙◌, ℕ, ap, subst, sym, rules, IsTrue, SFits, w32, int_le, int_gap, to_z-of_z, Coord}
 use Rattle.vdb_c.proofs.Places.{not_past_z}
 use Rattle.vdb_c.proofs.boxes.voxels.row_size.Goals as goal
 

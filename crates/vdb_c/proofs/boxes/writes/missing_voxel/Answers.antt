@@ -1,12 +1,4 @@
-use Rattle.std.proofs.Common.{◌≡◌, inl, inr, sym, ap, ◌∙◌, subst, not, IsTrue, arith}
-use Rattle.std.specs.Prelude.{IsSome}
-use Rattle.vdb_coord.specs.declared.Coord.{Coord}
-use Rattle.vdb_coord.proofs.Boxes.{both}
-use Rattle.vdb_coord.proofs.Walk.{min_inside}
-use Rattle.vdb_value.specs.declared.Kind.{Kind}
-use Rattle.vdb_c.specs.BoxWrites.{change_of_voxel}
-use Rattle.vdb_c.specs.Elements.{place}
-use Rattle.vdb_c.specs.Many.{change_at}
+use Rattle.vdb_c.proofs.Common.{◌≡◌, inl, inr, sym, ap, ◌∙◌, subst, not, IsTrue, arith, IsSome, Coord, both, min_inside, Kind, change_of_voxel, place, change_at}
 use Rattle.vdb_c.proofs.NextVoxels.{none, up_to_min}
 use Rattle.vdb_c.proofs.ElementWrites.{any_number, any_state}
 use Rattle.vdb_c.proofs.Places.{max_inside, place_at_most}

@@ -1,9 +1,4 @@
-use Rattle.std.proofs.Common.{IsTrue}
-use Rattle.std.specs.Prelude.{IsSome}
-use Rattle.vdb_coord.specs.Space.{is_inside}
-use Rattle.vdb_coord.specs.Walk.{IsBefore, coordinates_after}
-use Rattle.vdb_coord.specs.declared.Coord.{Coord}
-use Rattle.vdb_c.specs.BoxWrites.{change_of_voxel}
+use Rattle.vdb_c.proofs.Common.{IsTrue, IsSome, is_inside, IsBefore, coordinates_after, Coord, change_of_voxel}
 use Rattle.vdb_c.proofs.boxes.writes.missing_voxel.Given as goal
 
 abbrev pub invariant-voxels : goal.invariant-voxels

@@ -1,11 +1,5 @@
-use Rattle.std.proofs.Common.{rules, inl, subst, w32, IsTrue, SFits}
-use Rattle.std.specs.Prelude.{IsSome}
-use Rattle.std.proofs.lemmas.Int.{to_z-of_z}
-use Rattle.vdb_coord.specs.Space.{is_inside}
-use Rattle.vdb_coord.specs.declared.Coord.{Coord}
-use Rattle.vdb_value.specs.declared.Kind.{Kind}
-use Rattle.vdb_c.specs.BoxWrites.{WritesBox, change_of_voxel}
-use Rattle.vdb_c.specs.Calls.{grid_kind}
+use Rattle.vdb_c.proofs.Common.{rules, inl, subst, w32, IsTrue, SFits, IsSome, to_z-of_z, is_inside, Coord, Kind, change_of_voxel, grid_kind}
+use Rattle.vdb_c.specs.BoxWrites.{WritesBox}
 use Rattle.vdb_c.proofs.boxes.writes.write_box.Goals as goal
 
 pub returns-in-None : goal.returns-in-None

@@ -1,9 +1,5 @@
-use Rattle.std.proofs.Common.{arith, inl, refl, rules, subst, w32, ℕ, SFits}
-use Rattle.std.proofs.lemmas.Int.{to_z-of_z}
-use Rattle.vdb_coord.specs.Blocks.{vdb}
-use Rattle.vdb_tree.specs.Field.{Field, as_field_of}
-use Rattle.vdb_tree.specs.Layout.{field_of}
-use Rattle.vdb_c.specs.BoxWrites.{WritesBoxUpToIn, change_of_voxel}
+use Rattle.vdb_c.proofs.Common.{arith, inl, refl, rules, subst, w32, ℕ, SFits, to_z-of_z, vdb, Field, as_field_of, field_of, change_of_voxel}
+use Rattle.vdb_c.specs.BoxWrites.{WritesBoxUpToIn}
 use Rattle.vdb_c.proofs.LeafFields.{volume_fits}
 use Rattle.vdb_c.proofs.boxes.writes.write_cells.Goals as goal
 

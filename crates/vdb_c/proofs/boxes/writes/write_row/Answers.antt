@@ -1,11 +1,5 @@
-use Rattle.std.proofs.Common.{◌≡◌, ◌∙◌, ◌+◌, ◌<◌, refl, sym, ap, subst, ℕ, ℤ, pos, ◌+ℤ◌, arith, inl, inr, rules, w32, to_z, of_z, SFits}
-use Rattle.std.specs.Int.{int_gap}
-use Rattle.std.specs.Prelude.{IsSome}
-use Rattle.std.proofs.lemmas.Int.{to_z-of_z}
-use Rattle.vdb_coord.specs.Space.{coord}
-use Rattle.vdb_c.specs.BoxWrites.{along_z, change_of_voxel}
-use Rattle.vdb_c.specs.Elements.{place}
-use Rattle.vdb_c.specs.Many.{WritesFirstIn, change_at}
+use Rattle.vdb_c.proofs.Common.{◌≡◌, ◌∙◌, ◌+◌, ◌<◌, refl, sym, ap, subst, ℕ, ℤ, pos, ◌+ℤ◌, arith, inl, inr, rules, w32, to_z, of_z, SFits, int_gap, IsSome, to_z-of_z, coord, along_z, change_of_voxel, place, change_at}
+use Rattle.vdb_c.specs.Many.{WritesFirstIn}
 use Rattle.vdb_c.proofs.ManyWrites.{one_done, one_refused}
 use Rattle.vdb_c.proofs.RowFields.{at_start, next_fits, next_in_row, next_z_fits, one_more_z, row_ends, row_inside, same_coord}
 use Rattle.vdb_c.proofs.boxes.writes.write_row.Goals as goal

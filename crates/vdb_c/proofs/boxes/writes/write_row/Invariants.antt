@@ -1,10 +1,4 @@
-use Rattle.std.proofs.Common.{◌≡◌, ◌-◌, ◌<◌, pos, ◌+ℤ◌}
-use Rattle.vdb_coord.specs.Blocks.{vdb}
-use Rattle.vdb_tree.specs.Field.{as_field_of}
-use Rattle.vdb_tree.specs.Layout.{field_of}
-use Rattle.vdb_c.specs.BoxWrites.{along_z, change_of_voxel}
-use Rattle.vdb_c.specs.Elements.{place}
-use Rattle.vdb_c.specs.Many.{after_writes}
+use Rattle.vdb_c.proofs.Common.{◌≡◌, ◌-◌, ◌<◌, pos, ◌+ℤ◌, vdb, as_field_of, field_of, along_z, change_of_voxel, place, after_writes}
 use Rattle.vdb_c.proofs.boxes.writes.write_row.Given as goal
 
 abbrev pub invariant-voxels : goal.invariant-voxels

@@ -1,12 +1,5 @@
-use Rattle.std.proofs.Common.{◌∙◌, ◌+◌, refl, sym, ap, arith, inl, inr, rules, w32, SFits}
-use Rattle.std.proofs.lemmas.Int.{to_z-of_z}
-use Rattle.vdb_coord.specs.declared.Coord.{Coord}
-use Rattle.vdb_coord.proofs.Boxes.{both}
-use Rattle.vdb_coord.proofs.Walk.{min_inside}
-use Rattle.vdb_tree.specs.Field.{as_field_of}
-use Rattle.vdb_tree.specs.Layout.{field_of}
-use Rattle.vdb_coord.specs.Blocks.{vdb}
-use Rattle.vdb_c.specs.BoxWrites.{WritesBoxUpToIn, along_z, change_of_voxel, rank}
+use Rattle.vdb_c.proofs.Common.{◌∙◌, ◌+◌, refl, sym, ap, arith, inl, inr, rules, w32, SFits, to_z-of_z, Coord, both, min_inside, as_field_of, field_of, vdb, along_z, change_of_voxel, rank}
+use Rattle.vdb_c.specs.BoxWrites.{WritesBoxUpToIn}
 use Rattle.vdb_c.proofs.BoxFields.{writes_all, writes_none}
 use Rattle.vdb_c.proofs.Ranks.{rank_last, rank_min, rank_next}
 use Rattle.vdb_c.proofs.RowFields.{after_row, code_done, code_failed, count_fits, fewer_after, row_done, row_limit, row_stopped}

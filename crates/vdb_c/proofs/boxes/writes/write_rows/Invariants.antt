@@ -1,10 +1,4 @@
-use Rattle.std.proofs.Common.{◌≡◌, IsTrue}
-use Rattle.vdb_coord.specs.Blocks.{vdb}
-use Rattle.vdb_coord.specs.Space.{is_inside}
-use Rattle.vdb_coord.specs.Walk.{coordinates_after}
-use Rattle.vdb_tree.specs.Field.{as_field_of}
-use Rattle.vdb_tree.specs.Layout.{field_of}
-use Rattle.vdb_c.specs.BoxWrites.{change_of_voxel, is_first, rank, with_writes}
+use Rattle.vdb_c.proofs.Common.{◌≡◌, IsTrue, vdb, is_inside, coordinates_after, as_field_of, field_of, change_of_voxel, is_first, rank, with_writes}
 use Rattle.vdb_c.proofs.boxes.writes.write_rows.Given as goal
 
 abbrev pub invariant-rows : goal.invariant-rows

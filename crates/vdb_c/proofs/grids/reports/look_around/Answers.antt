@@ -1,7 +1,5 @@
-use Rattle.std.proofs.Common.{inl, refl, subst, sym, Some}
-use Rattle.vdb_coord.specs.Space.{Box}
+use Rattle.vdb_c.proofs.Common.{inl, refl, subst, sym, Some, Box, grid_field}
 use Rattle.vdb_walk.specs.Reports.{IsActiveBounds}
-use Rattle.vdb_scene.specs.Grids.{grid_field}
 use Rattle.vdb_c.specs.Reports.{IsBounds}
 use Rattle.vdb_c.proofs.grids.reports.look_around.Goals as goal
 

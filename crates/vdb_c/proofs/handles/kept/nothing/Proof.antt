@@ -1,31 +1,7 @@
 -- `nothing` keeps a null pointer, which owns nothing.
-use Rattle.std.proofs.Common.{◌≡◌, List, [], ◌∷◌, ◌++◌, refl, sym, subst}
-use mir.Syntax.{a_type, Args, dcons, dnil}
-use mir.MapTy.{inst_fn}
-use mir.Val.{Val}
-use base.Fml.{ftrue, flft}
-use base.Logic.{SProp, ent, emp, id⊢}
-use prog.Wp.{WpFn}
-use contract.Monad.{fact, fact_i}
-use contract.Running.{tables}
-use types.Kit.{‵, raw, ◌⊛◌, ◌$◌, ◌∵◌, !, qed, by, move, keep, use0, split, fsplit, fjoin, feq_i, rewrite, suffices}
-use types.Part.{agg}
-use types.Run.{and_then, no_more, lit, of_opd, returns, enter}
-use types.ByLocal.{alloc_all, pass_all, free_all, look_at, get, sets}
-use denote.Exit.{yes}
-use denote.Param.{param, layout, bounded}
-use denote.RattleType.{RattleType, owns}
-use denote.RawPtr.{Ptr, null_ptr}
-use denote.Signature.{types_at, plain}
-use denote.Steps.{nothing}
-use denote.Triple.Walked.{Stays, stay_dropped, walk_of}
-use Rattle.core.proofs.alloc.Calls.{Goes-blank}
-use Rattle.core.proofs.atomic.Steps.{Ptr-Good}
-use Rattle.std.proofs.Handle.{heap_val, heap_Tells}
-use Rattle.std.proofs.raw_atomic.Walks.{proved_at, leaves}
+use Rattle.vdb_c.proofs.Common.{◌≡◌, List, [], ◌∷◌, ◌++◌, refl, sym, subst, a_type, Args, dcons, dnil, inst_fn, Val, ftrue, flft, SProp, ent, emp, id⊢, WpFn, fact, fact_i, tables, ‵, raw, ◌⊛◌, ◌$◌, ◌∵◌, !, qed, by, move, keep, use0, split, fsplit, fjoin, feq_i, rewrite, suffices, agg, and_then, no_more, lit, of_opd, returns, enter, alloc_all, pass_all, free_all, look_at, get, sets, yes, param, layout, bounded, RattleType, owns, Ptr, null_ptr, types_at, plain, nothing, Stays, stay_dropped, walk_of, Goes-blank, Ptr-Good, heap_val, heap_Tells, proved_at, leaves, ghosts}
 use Rattle.std.proofs.alloc.Global.TheLaws as heap_laws
 use Rattle.std.specs.contracts.alloc.Global as heap
-use Rattle.std.specs.contracts.impls.GlobalAllocator.TheImpl.{ghosts}
 use Rattle.std.specs.declared.option.Option.{Option}
 use Rattle.std.specs.declared.option.Option.TheVariants.{None}
 use Rattle.vdb_c.proofs.Pointers.{beside_val, beside_fits}

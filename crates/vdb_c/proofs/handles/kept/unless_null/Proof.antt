@@ -1,43 +1,14 @@
 -- `unless_null` tests the pointer, which only a box's lets it do, and a null pointer owns nothing. Assumes `Logic`.
-use Rattle.std.proofs.Common.{◌≡◌, List, [], ◌∷◌, ◌++◌, refl, sym, ap, ◌∙◌, subst, lit<}
-use mir.Syntax.{Args, a_type, dcons, dnil}
-use mir.MapTy.{inst_fn}
+use Rattle.vdb_c.proofs.Common.{◌≡◌, List, [], ◌∷◌, ◌++◌, refl, sym, ap, ◌∙◌, subst, lit<, Args, a_type, dcons, dnil, inst_fn, Val, of_list, has_ty, WT, ftrue, flft, SProp, ent, emp, never, fst∗, id⊢, WpFn, ‵, raw, ◌⊛◌, given, prop, at_ret, ◌$◌, ◌∵◌, !, qed, by, move, keep, drop, split, fsplit, join, fjoin, use0, use1, suffices, rewrite, feq_l, learn, sem, live, stop, fld, lit, of_opd, bin, no_more, and_then, first, branches, skips, exec, returns, returns_within, enter, alloc_all, pass_all, free_all, look_at, get, get_in, sets, env, agg, sub, whole, fact, fact_i, tables, no, lone, param, layout, bounded, RattleType, owns, Ptr, block_ptr, null_ptr, Testable, tests_null, in_a_block, types_at, plain, nothing, Stays, stay_dropped, walk_of, Goes-blank, after, Ptr-Good, Some-of, none_of, proved_at, leaves, IsSome, ghosts, box_owns, freeing, owns_boxed}
 use lib.Dec.{T as T'}
-use mir.Val.{Val, of_list, has_ty, WT}
-use base.Fml.{ftrue, flft}
-use base.Logic.{SProp, ent, emp, never, fst∗, id⊢}
 use mir.Raw.{raw as bare}
-use prog.Wp.{WpFn}
-use types.Kit.{‵, raw, ◌⊛◌, given, prop, at_ret, Sq, ◌$◌, ◌∵◌, !, qed, by, move, keep, drop, split, fsplit, join, fjoin, use0, use1, suffices, rewrite, feq_l, learn}
-use types.Logic.{sem}
-use types.Match.{live}
-use types.Run.{stop, fld, lit, of_opd, bin, no_more, and_then, first, branches, skips, exec, returns, returns_within, enter}
-use types.ByLocal.{alloc_all, pass_all, free_all, look_at, get, get_in, sets, env}
-use types.Part.{agg, sub, whole}
-use contract.Monad.{fact, fact_i}
-use contract.Running.{tables}
-use denote.Exit.{no}
-use denote.Memory.{lone}
-use denote.Param.{param, layout, bounded}
-use denote.RattleType.{RattleType, owns}
-use denote.RawPtr.{Ptr, block_ptr, null_ptr, Testable, tests_null, in_a_block}
-use denote.Signature.{types_at, plain}
-use denote.Steps.{nothing}
-use denote.Triple.Walked.{Stays, stay_dropped, walk_of}
-use Rattle.core.proofs.alloc.Calls.{Goes-blank}
-use Rattle.core.proofs.alloc.Shapes.{after}
-use Rattle.core.proofs.atomic.Steps.{Ptr-Good}
-use Rattle.core.proofs.option.Made.{Some-of, none_of}
-use Rattle.std.proofs.raw_atomic.Walks.{proved_at, leaves}
+use types.Kit.{Sq}
 use Rattle.std.proofs.alloc.Global.TheLaws as heap_laws
-use Rattle.std.specs.Prelude.{IsSome, IfSome, IfNone}
+use Rattle.std.specs.Prelude.{IfSome, IfNone}
 use Rattle.std.specs.contracts.alloc.Global as heap
-use Rattle.std.specs.contracts.impls.GlobalAllocator.TheImpl.{ghosts}
 use Rattle.std.specs.contracts.option.Option as optional
 use Rattle.std.specs.declared.option.Option.{Option}
 use Rattle.std.specs.declared.option.Option.TheVariants.{None, Some}
-use Rattle.std_alloc.specs.Box.Ownership.{box_owns}
-use Rattle.vdb_c.specs.Kept.{freeing, owns_boxed}
 use Rattle.vdb_c.proofs.Pointers.{beside_val, beside_fits, all_one, is_testable, either}
 use Rattle.vdb_c.proofs.KeptValues.{Kept, kept_in, kept_out}
 use Rattle.vdb_c.specs.contracts.handles.kept.unless_null.{ended, clauses}

@@ -1,11 +1,5 @@
-use Rattle.std.proofs.Common.{◌≡◌, ◌∙◌, ap, sym, ℕ}
-use Rattle.vdb_coord.specs.Blocks.{vdb}
+use Rattle.vdb_c.proofs.Common.{◌≡◌, ◌∙◌, ap, sym, ℕ, vdb, cell_in, off, field_of, Cell, IsValueOf, IsWordOf}
 use Rattle.vdb_mask.specs.Mask.{is_on}
-use Rattle.vdb_node.specs.Leaf.{cell_in}
-use Rattle.vdb_tree.specs.Field.{off}
-use Rattle.vdb_tree.specs.Layout.{field_of}
-use Rattle.vdb_value.specs.declared.Cell.{Cell}
-use Rattle.vdb_c.specs.Leaves.{IsValueOf, IsWordOf}
 use Rattle.vdb_c.proofs.LeafRows.{run_as}
 use Rattle.vdb_c.proofs.leaves.rows.copy_leaf.Goals as goal
 

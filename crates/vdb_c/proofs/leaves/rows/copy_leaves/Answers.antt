@@ -1,11 +1,4 @@
-use Rattle.std.proofs.Common.{◌≡◌, ◌≢◌, ◌<◌, ◌≤◌, ◌+◌, ◌*◌, ◌⊎◌, inl, inr, ◌∙◌, ℕ, ap, sym, subst, arith, length, set, Option, Some, None, get_or-set_other}
-use Rattle.std.proofs.lemmas.Bool.{cases_eq}
-use Rattle.vdb_coord.specs.Blocks.{vdb}
-use Rattle.vdb_coord.specs.declared.Coord.{Coord}
-use Rattle.vdb_tree.specs.Layout.{field_of}
-use Rattle.vdb_tree.specs.Leaves.{IsNextLeaf}
-use Rattle.vdb_c.specs.Leaves.{HasRun, IsValueOf, IsWordOf, last_before}
-use Rattle.vdb_c.specs.Many.{voxel_at}
+use Rattle.vdb_c.proofs.Common.{◌≡◌, ◌≢◌, ◌<◌, ◌≤◌, ◌+◌, ◌*◌, ◌⊎◌, inl, inr, ◌∙◌, ℕ, ap, sym, subst, arith, length, set, Option, Some, None, get_or-set_other, cases_eq, vdb, Coord, field_of, IsNextLeaf, HasRun, IsValueOf, IsWordOf, last_before, voxel_at}
 use Rattle.vdb_c.proofs.LeafRows.{last_next, last_other, row_room, rows_as, rows_next, rows_none, voxel_other, voxel_set}
 use Rattle.vdb_c.proofs.leaves.rows.copy_leaves.Goals as goal
 

@@ -1,10 +1,4 @@
-use Rattle.std.proofs.Common.{◌≡◌, ◌<◌, ◌≤◌, ℕ, Some, get_or, length}
-use Rattle.vdb_coord.specs.Blocks.{vdb}
-use Rattle.vdb_tree.specs.Layout.{field_of}
-use Rattle.vdb_tree.specs.Leaves.{IsNextLeaf}
-use Rattle.vdb_c.specs.Leaves.{HasRows, IsValueOf, IsWordOf, last_before}
-use Rattle.vdb_c.specs.Many.{voxel_at}
-use Rattle.vdb_c.specs.declared.values.Corner.{Corner}
+use Rattle.vdb_c.proofs.Common.{◌≡◌, ◌<◌, ◌≤◌, ℕ, Some, get_or, length, vdb, field_of, IsNextLeaf, HasRows, IsValueOf, IsWordOf, last_before, voxel_at, Corner}
 use Rattle.vdb_c.proofs.leaves.rows.copy_leaves.Given as goal
 
 abbrev pub invariant-loop-k : goal.invariant-loop-k

@@ -1,6 +1,5 @@
-use Rattle.std.proofs.Common.{◌≡◌, ◌<◌, ◌+◌, ◌*◌, ℕ}
+use Rattle.vdb_c.proofs.Common.{◌≡◌, ◌<◌, ◌+◌, ◌*◌, ℕ, HasRun}
 use Rattle.vdb_mask.specs.Mask.{has_bit, is_on}
-use Rattle.vdb_c.specs.Leaves.{HasRun}
 use Rattle.vdb_c.proofs.leaves.rows.copy_states.Given as goal
 
 abbrev pub invariant-loop-i : goal.invariant-loop-i

@@ -1,5 +1,4 @@
-use Rattle.std.proofs.Common.{◌≡◌, ◌+◌, ◌*◌, ◌≤◌, arith, length, rules}
-use Rattle.vdb_node.specs.Leaf.{cell_in}
+use Rattle.vdb_c.proofs.Common.{◌≡◌, ◌+◌, ◌*◌, ◌≤◌, arith, length, rules, cell_in}
 use Rattle.vdb_c.proofs.LeafRows.{run_put}
 use Rattle.vdb_c.proofs.leaves.rows.copy_values.Goals as goal
 

@@ -1,6 +1,4 @@
-use Rattle.std.proofs.Common.{◌∙◌, ap, ℕ, ℤ}
-use Rattle.std.specs.Prelude.{Option, slice_get}
-use Rattle.vdb_c.specs.Many.{change_of}
+use Rattle.vdb_c.proofs.Common.{◌∙◌, ap, ℕ, ℤ, Option, slice_get, change_of}
 use Rattle.vdb_c.proofs.voxels.element_writes.element_write.Goals as goal
 
 pub returns : goal.returns

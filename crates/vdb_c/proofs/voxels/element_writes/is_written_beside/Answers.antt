@@ -1,10 +1,4 @@
-use Rattle.std.proofs.Common.{subst}
-use Rattle.std.specs.Prelude.{Ok}
-use Rattle.vdb_coord.specs.Blocks.{vdb}
-use Rattle.vdb_tree.specs.Field.{as_field_of}
-use Rattle.vdb_tree.specs.Layout.{Layout, field_of}
-use Rattle.vdb_c.specs.Calls.{IsWrittenBy}
-use Rattle.vdb_c.specs.Many.{change_at}
+use Rattle.vdb_c.proofs.Common.{subst, Ok, vdb, as_field_of, Layout, field_of, IsWrittenBy, change_at}
 use Rattle.vdb_c.proofs.voxels.element_writes.is_written_beside.Goals as goal
 
 pub returns-clause-written : goal.returns-clause-written

@@ -1,9 +1,4 @@
-use Rattle.std.proofs.Common.{◌∙◌, sym, ap}
-use Rattle.std.specs.Prelude.{Some}
-use Rattle.vdb_coord.specs.Blocks.{vdb}
-use Rattle.vdb_tree.specs.Field.{as_write_of}
-use Rattle.vdb_tree.specs.Layout.{field_of}
-use Rattle.vdb_tree.specs.declared.Write.{Write}
+use Rattle.vdb_c.proofs.Common.{◌∙◌, sym, ap, Some, vdb, as_write_of, field_of, Write}
 use Rattle.vdb_tree.specs.declared.Write.TheVariants as writes
 use Rattle.vdb_c.proofs.ElementWrites.{written_as}
 use Rattle.vdb_c.proofs.voxels.element_writes.is_written_near.Goals as goal

@@ -1,13 +1,4 @@
-use Rattle.std.proofs.Common.{◌∙◌, ap, sym, subst}
-use Rattle.std.specs.Prelude.{Option}
-use Rattle.vdb_coord.specs.Blocks.{vdb}
-use Rattle.vdb_tree.specs.Field.{as_field_of}
-use Rattle.vdb_tree.specs.Layout.{Layout, field_of}
-use Rattle.vdb_tree.specs.declared.Write.{Write}
-use Rattle.vdb_scene.specs.declared.scalar.Scalar.{Scalar}
-use Rattle.vdb_value.specs.declared.Kind.{Kind}
-use Rattle.vdb_c.specs.Calls.{IsWrittenBy}
-use Rattle.vdb_c.specs.Many.{change_at}
+use Rattle.vdb_c.proofs.Common.{◌∙◌, ap, sym, subst, Option, vdb, as_field_of, Layout, field_of, Write, Scalar, Kind, IsWrittenBy, change_at}
 use Rattle.vdb_c.proofs.voxels.element_writes.write_far.Goals as goal
 
 pub returns-clause-outcome : goal.returns-clause-outcome

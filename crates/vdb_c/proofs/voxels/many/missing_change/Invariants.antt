@@ -1,6 +1,4 @@
-use Rattle.std.proofs.Common.{ℕ, ◌<◌}
-use Rattle.std.specs.Prelude.{IsSome}
-use Rattle.vdb_c.specs.Many.{change_at}
+use Rattle.vdb_c.proofs.Common.{ℕ, ◌<◌, IsSome, change_at}
 use Rattle.vdb_c.proofs.voxels.many.missing_change.Given as goal
 
 abbrev pub invariant-loop-k : goal.invariant-loop-k

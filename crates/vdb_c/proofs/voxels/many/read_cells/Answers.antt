@@ -1,10 +1,5 @@
-use Rattle.std.proofs.Common.{refl}
-use Rattle.vdb_coord.specs.Blocks.{vdb}
-use Rattle.vdb_tree.specs.Layout.{cell_at}
-use Rattle.vdb_value.specs.declared.Cell.{Cell}
-use Rattle.vdb_scene.specs.declared.scalar.Scalar.{Scalar}
+use Rattle.vdb_c.proofs.Common.{refl, vdb, cell_at, Cell, Scalar, state_byte, value_number}
 use Rattle.vdb_scene.specs.declared.scalar.Scalar.TheVariants as scalars
-use Rattle.vdb_c.specs.Values.{state_byte, value_number}
 use Rattle.vdb_c.proofs.Filled.{read_as}
 use Rattle.vdb_c.proofs.voxels.many.read_cells.Goals as goal
 

@@ -1,11 +1,4 @@
-use Rattle.std.proofs.Common.{◌≡◌, ◌∙◌, ◌<◌, ap, rules, get_or, length, pos, set, SFits, w64}
-use Rattle.std.proofs.lemmas.Int.{to_z-of_z}
-use Rattle.std.proofs.lemmas.List.{get_or_default}
-use Rattle.vdb_coord.specs.Blocks.{vdb}
-use Rattle.vdb_tree.specs.Layout.{field_of}
-use Rattle.vdb_value.specs.declared.Cell.{Cell}
-use Rattle.vdb_c.specs.Values.{corner_coord, state_byte}
-use Rattle.vdb_c.specs.declared.values.Corner.{Corner}
+use Rattle.vdb_c.proofs.Common.{◌≡◌, ◌∙◌, ◌<◌, ap, rules, get_or, length, pos, set, SFits, w64, to_z-of_z, get_or_default, vdb, field_of, Cell, corner_coord, state_byte, Corner}
 use Rattle.vdb_c.proofs.Filled.{beside_fits, byte_is, filled_all, filled_next}
 use Rattle.vdb_c.proofs.voxels.many.read_voxels.Goals as goal
 

@@ -1,7 +1,5 @@
-use Rattle.vdb_coord.specs.Blocks.{vdb}
-use Rattle.vdb_tree.specs.Layout.{field_of}
+use Rattle.vdb_c.proofs.Common.{vdb, field_of, corner_coord, state_byte}
 use Rattle.vdb_tree.specs.Paths.{Lives}
-use Rattle.vdb_c.specs.Values.{corner_coord, state_byte}
 use Rattle.vdb_c.proofs.Filled.{IsFilled}
 use Rattle.vdb_c.proofs.voxels.many.read_voxels.Given as goal
 

@@ -1,5 +1,4 @@
-use Rattle.std.proofs.Common.{rules, w32, SFits}
-use Rattle.std.proofs.lemmas.Int.{to_z-of_z}
+use Rattle.vdb_c.proofs.Common.{rules, w32, SFits, to_z-of_z}
 use Rattle.vdb_c.proofs.voxels.many.write_first.Goals as goal
 
 pub returns-in-Bool : goal.returns-in-Bool

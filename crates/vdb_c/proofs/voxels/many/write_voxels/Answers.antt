@@ -1,6 +1,5 @@
-use Rattle.std.proofs.Common.{◌∙◌, sym, inr, refl, rules, w32, to_z, of_z, SFits}
-use Rattle.std.proofs.lemmas.Int.{to_z-of_z}
-use Rattle.vdb_c.specs.Many.{WritesFirstIn, change_at, voxel_at}
+use Rattle.vdb_c.proofs.Common.{◌∙◌, sym, inr, refl, rules, w32, to_z, of_z, SFits, to_z-of_z, change_at, voxel_at}
+use Rattle.vdb_c.specs.Many.{WritesFirstIn}
 use Rattle.vdb_c.proofs.ManyWrites.{one_done, one_refused}
 use Rattle.vdb_c.proofs.voxels.many.write_voxels.Goals as goal
 

@@ -1,8 +1,4 @@
-use Rattle.std.proofs.Common.{◌≡◌}
-use Rattle.vdb_coord.specs.Blocks.{vdb}
-use Rattle.vdb_tree.specs.Field.{as_field_of}
-use Rattle.vdb_tree.specs.Layout.{field_of}
-use Rattle.vdb_c.specs.Many.{after_writes, change_at, voxel_at}
+use Rattle.vdb_c.proofs.Common.{◌≡◌, vdb, as_field_of, field_of, after_writes, change_at, voxel_at}
 use Rattle.vdb_c.proofs.voxels.many.write_voxels.Given as goal
 
 abbrev pub invariant-loop-k : goal.invariant-loop-k

@@ -1,14 +1,5 @@
-use Rattle.std.proofs.Common.{refl, rules, subst, w32, w64, SFits}
-use Rattle.std.specs.Prelude.{IsSome, Ok, Option}
-use Rattle.std.specs.Option.{option_map}
-use Rattle.std.proofs.lemmas.Int.{to_z-of_z}
-use Rattle.vdb_tree.specs.declared.Write.{Write}
-use Rattle.vdb_scene.specs.Grids.{grid_field}
+use Rattle.vdb_c.proofs.Common.{refl, rules, subst, w32, w64, SFits, IsSome, Ok, Option, option_map, to_z-of_z, Write, grid_field, Scalar, I64, IsWrittenBy, write_of, value_of}
 use Rattle.vdb_scene.specs.declared.any_grid.AnyGrid.TheVariants as grids
-use Rattle.vdb_scene.specs.declared.scalar.Scalar.{Scalar}
-use Rattle.vdb_value.specs.declared.Kind.TheVariants.{I64}
-use Rattle.vdb_c.specs.Calls.{IsWrittenBy, write_of}
-use Rattle.vdb_c.specs.Values.{value_of}
 use Rattle.vdb_c.proofs.VoxelCalls.{written_near}
 use Rattle.vdb_c.proofs.voxels.near_writes.set_near.Goals as goal
 

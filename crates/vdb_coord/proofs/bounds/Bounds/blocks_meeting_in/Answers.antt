@@ -1,6 +1,5 @@
 -- The blocks that meet a box are counted by their numbers.
-use Rattle.std.proofs.Common.{sym, ◌∙◌, ap}
-use Rattle.vdb_coord.specs.Space.{everywhere, is_box, is_within, volume}
+use Rattle.vdb_coord.proofs.Common.{sym, ◌∙◌, ap, everywhere, is_box, is_within, volume}
 use Rattle.vdb_coord.proofs.Boxes.{both}
 use Rattle.vdb_coord.proofs.Counts.{blocks_meeting_is}
 use Rattle.vdb_coord.proofs.bounds.Bounds.blocks_meeting_in.Goals as goal

@@ -1,6 +1,5 @@
 -- A box holds a coordinate if each component lies between the corners'.
-use Rattle.std.proofs.Common.{SFits, w32, rules, refl}
-use Rattle.std.proofs.lemmas.Int.{to_z-of_z}
+use Rattle.vdb_coord.proofs.Common.{SFits, w32, rules, refl, to_z-of_z}
 use Rattle.vdb_coord.proofs.bounds.Bounds.contains.Goals as goal
 
 pub returns : goal.returns

@@ -1,6 +1,5 @@
 -- The next leaf extent that meets what the box has of the lower extent around p.
-use Rattle.std.proofs.Common.{refl}
-use Rattle.vdb_coord.specs.declared.Level.TheVariants.{Lower}
+use Rattle.vdb_coord.proofs.Common.{refl, Lower}
 use Rattle.vdb_coord.proofs.NextCoord.{leaf_found, leaf_none, in_part, part_inside}
 use Rattle.vdb_coord.proofs.bounds.Bounds.coord_past_leaf.Goals as goal
 

@@ -1,6 +1,5 @@
 -- The next lower extent that meets what the box has of the upper extent around p.
-use Rattle.std.proofs.Common.{refl}
-use Rattle.vdb_coord.specs.declared.Level.TheVariants.{Upper}
+use Rattle.vdb_coord.proofs.Common.{refl, Upper}
 use Rattle.vdb_coord.proofs.NextCoord.{lower_found, lower_none, in_part, part_inside}
 use Rattle.vdb_coord.proofs.bounds.Bounds.coord_past_lower.Goals as goal
 

@@ -1,9 +1,5 @@
 -- The positions of the corners that the box and the node have in common.
-use Rattle.std.proofs.Common.{◌≡◌, true, ap, sym, ◌∙◌}
-use Rattle.vdb_coord.specs.Blocks.{block_around}
-use Rattle.vdb_coord.specs.Boxes.{box_of}
-use Rattle.vdb_coord.specs.Entries.{position, position_of}
-use Rattle.vdb_coord.specs.Space.{Box, is_box, is_inside}
+use Rattle.vdb_coord.proofs.Common.{◌≡◌, true, ap, sym, ◌∙◌, block_around, box_of, position, position_of, Box, is_box, is_inside}
 use Rattle.vdb_coord.proofs.Boxes.{box_of_none, box_of_some}
 use Rattle.vdb_coord.proofs.Ranges.{high_corner, high_of_same, low_corner, low_of_same, none_meets, positions_are_box, positions_meet, same_answer, same_box}
 use Rattle.vdb_coord.proofs.bounds.Bounds.entries_meeting_in.Goals as goal

@@ -1,9 +1,5 @@
 -- The least corner of what the box has of a block comes before its other coordinates.
-use Rattle.std.proofs.Common.{◌≡◌, ◌∙◌, SFits, ap, rules, subst, sym, w32}
-use Rattle.vdb_coord.specs.Blocks.{block_around}
-use Rattle.vdb_coord.specs.Order.{IsFirstInBlock}
-use Rattle.vdb_coord.specs.Space.{Box}
-use Rattle.vdb_coord.specs.declared.Coord.{Coord}
+use Rattle.vdb_coord.proofs.Common.{◌≡◌, ◌∙◌, SFits, ap, rules, subst, sym, w32, block_around, IsFirstInBlock, Box, Coord}
 use Rattle.vdb_coord.proofs.Meeting.{fits_everywhere}
 use Rattle.vdb_coord.proofs.NextCoord.{corner, first_at_corner}
 use Rattle.vdb_coord.proofs.bounds.Bounds.first_in_block.Goals as goal

@@ -1,6 +1,5 @@
 -- Two boxes meet if they do along each axis.
-use Rattle.std.proofs.Common.{SFits, w32, rules, refl}
-use Rattle.std.proofs.lemmas.Int.{to_z-of_z}
+use Rattle.vdb_coord.proofs.Common.{SFits, w32, rules, refl, to_z-of_z}
 use Rattle.vdb_coord.proofs.bounds.Bounds.meets.Goals as goal
 
 pub returns : goal.returns

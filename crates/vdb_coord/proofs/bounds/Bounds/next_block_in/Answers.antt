@@ -1,8 +1,6 @@
-use Rattle.std.proofs.Common.{◌≡◌, ◌∙◌, ◌+ℤ◌, ◌<ℤ◌, ◌≤ℤ◌, SFits, ap, arith, of_z, pos, refl, rules, to_z, true, false, w32, ℤ}
+use Rattle.vdb_coord.proofs.Common.{◌≡◌, ◌∙◌, ◌+ℤ◌, ◌<ℤ◌, ◌≤ℤ◌, SFits, ap, arith, pos, refl, rules, to_z, true, false, w32, ℤ, ints, to_z-of_z, block_bits, Box, coord}
+use Rattle.std.proofs.Common.{of_z}
 use lib.Signed.{lt_z}
-use Rattle.std.proofs.lemmas.Int.{ints, to_z-of_z}
-use Rattle.vdb_coord.specs.Blocks.{block_bits}
-use Rattle.vdb_coord.specs.Space.{Box, coord}
 use Rattle.vdb_coord.proofs.Walk.{few_after, nearer_x, nearer_y, nearer_z, next_x, next_y, next_z, no_next, own_end}
 use Rattle.vdb_coord.proofs.bounds.Bounds.next_block_in.Goals as goal
 

@@ -1,6 +1,5 @@
 -- The box and the block both hold p.
-use Rattle.std.proofs.Common.{◌≡◌, ◌∙◌, ap, false, sym, true}
-use Rattle.vdb_coord.specs.Space.{Box, is_inside}
+use Rattle.vdb_coord.proofs.Common.{◌≡◌, ◌∙◌, ap, false, sym, true, Box, is_inside}
 use Rattle.vdb_coord.proofs.Boxes.{and_true}
 use Rattle.vdb_coord.proofs.Nesting.{inside_around}
 use Rattle.vdb_coord.proofs.bounds.Bounds.part_around.Goals as goal

@@ -1,6 +1,5 @@
 -- Each axis of a box has a number.
-use Rattle.std.proofs.Common.{SFits, w32, rules, int_le}
-use Rattle.std.proofs.lemmas.Int.{to_z-of_z}
+use Rattle.vdb_coord.proofs.Common.{SFits, w32, rules, int_le, to_z-of_z}
 use Rattle.vdb_coord.proofs.Boxes.{three}
 use Rattle.vdb_coord.proofs.bounds.Bounds.volume.Goals as goal
 

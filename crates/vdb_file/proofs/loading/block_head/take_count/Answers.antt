@@ -1,5 +1,4 @@
-use Rattle.std.proofs.Common.{◌≤◌, arith}
-use Rattle.std.proofs.lemmas.Result.{err_from_is_err_and}
+use Rattle.vdb_file.proofs.Common.{◌≤◌, arith, err_from_is_err_and}
 use Rattle.vdb_file.proofs.HeadCodes.{no_u16}
 use Rattle.vdb_file.proofs.loading.block_head.take_count.Goals as goal
 

@@ -1,5 +1,4 @@
-use Rattle.std.proofs.lemmas.Result.{err_from_is_err_and}
-use Rattle.vdb_tree.proofs.Uniform.{exact_by}
+use Rattle.vdb_file.proofs.Common.{err_from_is_err_and, exact_by}
 use Rattle.vdb_file.proofs.HeadCodes.{no_node, voxel_values}
 use Rattle.vdb_file.proofs.loading.block_head.take_head.Goals as goal
 

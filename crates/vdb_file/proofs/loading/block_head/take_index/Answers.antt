@@ -1,6 +1,4 @@
-use Rattle.std.proofs.Common.{arith}
-use Rattle.std.proofs.lemmas.Result.{err_from_is_err_and}
-use Rattle.vdb_file.specs.internal.Loading.{IsIndex}
+use Rattle.vdb_file.proofs.Common.{arith, err_from_is_err_and, IsIndex}
 use Rattle.vdb_file.proofs.HeadCodes.{no_number, no_u16}
 use Rattle.vdb_file.proofs.loading.block_head.take_index.Goals as goal
 

@@ -1,9 +1,5 @@
-use Rattle.std.proofs.Common.{◌≡◌, ◌∙◌, true, false, ap, sym}
-use Rattle.std.proofs.lemmas.Result.{err_from_is_err_and}
-use Rattle.vdb_coord.specs.Blocks.{vdb}
+use Rattle.vdb_file.proofs.Common.{◌≡◌, ◌∙◌, true, false, ap, sym, err_from_is_err_and, vdb, Box, is_inside, Upper}
 use Rattle.vdb_coord.specs.Entries.{numbers_over}
-use Rattle.vdb_coord.specs.Space.{Box, is_inside}
-use Rattle.vdb_coord.specs.declared.Level.TheVariants.{Upper}
 use Rattle.vdb_file.proofs.KeyCodes.{no_key_bytes, no_such_key}
 use Rattle.vdb_file.proofs.Standard.{standard_bits}
 use Rattle.vdb_file.proofs.loading.block_head.take_key.Goals as goal

@@ -1,5 +1,4 @@
-use Rattle.std.proofs.Common.{rules}
-use Rattle.vdb_tree.proofs.Uniform.{exact_by}
+use Rattle.vdb_file.proofs.Common.{rules, exact_by}
 use Rattle.vdb_file.proofs.HeadCodes.{no_state, voxel_values}
 use Rattle.vdb_file.proofs.loading.block_head.take_state.Goals as goal
 

@@ -1,11 +1,4 @@
-use Rattle.std.proofs.Common.{ap, refl, rules, subst, sym, ℕ, ◌+◌, ◌∙◌}
-use Rattle.std.proofs.lemmas.Result.{err_from_is_err_and, on_ok_weaker}
-use Rattle.std.specs.Int.{to_be_bytes, w16}
-use Rattle.std.specs.Prelude.{None, Some}
-use Rattle.vdb_coord.proofs.Meeting.{fits_everywhere}
-use Rattle.vdb_coord.specs.Blocks.{block_around, entries, vdb}
-use Rattle.vdb_coord.specs.Space.{Box}
-use Rattle.vdb_coord.specs.declared.Level.TheVariants.{Upper}
+use Rattle.vdb_file.proofs.Common.{ap, refl, rules, subst, sym, ℕ, ◌+◌, ◌∙◌, err_from_is_err_and, on_ok_weaker, to_be_bytes, w16, None, Some, fits_everywhere, block_around, entries, vdb, Box, Upper, level_body, HasCapacityAt, KeptOutside, ShowsIn, entry_box, IsIndex, Reads, ahead, exact_by, cell_at, field_of}
 use Rattle.vdb_file.proofs.BlockLoops.{entries_loadable, more_entries, no_entries, no_next_entry}
 use Rattle.vdb_file.proofs.BlockReads.{no_block_head, no_mixed, no_mixed_list}
 use Rattle.vdb_file.proofs.BlockResults.{node_result, one_result}
@@ -17,12 +10,6 @@ use Rattle.vdb_file.proofs.Moves.{memory_moves, moves_err, moves_failed, moves_o
 use Rattle.vdb_file.proofs.NextReads.{both_next, index_says, no_block_next, no_number_next}
 use Rattle.vdb_file.proofs.RowLoops.{all_underway}
 use Rattle.vdb_file.proofs.Standard.{standard_bits}
-use Rattle.vdb_file.specs.internal.Levels.{level_body}
-use Rattle.vdb_file.specs.internal.LoadedFields.{HasCapacityAt, KeptOutside, ShowsIn, entry_box}
-use Rattle.vdb_file.specs.internal.Loading.{IsIndex}
-use Rattle.vdb_file.specs.internal.Reading.{Reads, ahead}
-use Rattle.vdb_tree.proofs.Uniform.{exact_by}
-use Rattle.vdb_tree.specs.Layout.{cell_at, field_of}
 use Rattle.vdb_file.proofs.loading.blocks.+blocks.Goals as goal
 
 pub take_block-returns-in-Leaf-clause-reads : goal.take_block-returns-in-Leaf-clause-reads

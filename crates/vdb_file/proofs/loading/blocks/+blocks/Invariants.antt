@@ -1,10 +1,4 @@
-use Rattle.std.proofs.Common.{◌≡◌, ℕ, Some, ◌+◌, ◌*◌}
-use Rattle.vdb_coord.specs.Blocks.{block_around, entries, vdb}
-use Rattle.vdb_tree.specs.Layout.{field_of}
-use Rattle.vdb_file.specs.internal.Levels.{level_body}
-use Rattle.vdb_file.specs.internal.LoadedFields.{AreLoadable, entry_box}
-use Rattle.vdb_file.specs.internal.Loading.{IsIndex}
-use Rattle.vdb_file.specs.internal.Reading.{EndsWith, GaveWithin, ahead, byte_total}
+use Rattle.vdb_file.proofs.Common.{◌≡◌, ℕ, Some, ◌+◌, ◌*◌, block_around, entries, vdb, field_of, level_body, AreLoadable, entry_box, IsIndex, EndsWith, GaveWithin, ahead, byte_total}
 use Rattle.vdb_file.proofs.RowInstances.{node_row}
 use Rattle.vdb_file.proofs.RowLoops.{IsUnderway}
 use Rattle.vdb_file.proofs.Levels.{rank}

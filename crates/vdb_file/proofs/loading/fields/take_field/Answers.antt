@@ -1,7 +1,4 @@
-use Rattle.std.proofs.Common.{rules, ◌≡◌, ◌<◌, length, take, Ok, refl, ap, subst, arith, length-take}
-use Rattle.std.proofs.lemmas.Grind.{common_steps}
-use Rattle.vdb_file.specs.internal.Reading.{Took, ahead}
-use Rattle.vdb_file.specs.declared.fault.LoadFault.TheVariants.{Truncated}
+use Rattle.vdb_file.proofs.Common.{rules, ◌≡◌, ◌<◌, length, take, Ok, refl, ap, subst, arith, length-take, common_steps, Took, ahead, Truncated}
 use Rattle.vdb_file.proofs.FieldBytes.{at_end, piece_taken, took_kept}
 use Rattle.vdb_file.proofs.Fronts.{fails_short, took_nothing}
 use Rattle.vdb_file.proofs.loading.fields.take_field.Goals as goal

@@ -1,5 +1,4 @@
-use Rattle.std.proofs.Common.{◌≡◌, ◌≤◌, ◌-◌, length, take, ℕ, Some}
-use Rattle.vdb_file.specs.internal.Reading.{EndsWith, GaveWithin, Took, ahead, byte_total}
+use Rattle.vdb_file.proofs.Common.{◌≡◌, ◌≤◌, ◌-◌, length, take, ℕ, Some, EndsWith, GaveWithin, Took, ahead, byte_total}
 use Rattle.vdb_file.proofs.loading.fields.take_field.Given as goal
 
 -- the front of the field was read

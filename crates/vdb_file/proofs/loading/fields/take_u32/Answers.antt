@@ -1,6 +1,4 @@
-use Rattle.std.proofs.Common.{◌≡◌, ◌<◌, ◌^◌, length, refl}
-use Rattle.std.specs.Int.{w32, to_be_bytes}
-use Rattle.std.proofs.lemmas.Result.{err_from_is_err_and}
+use Rattle.vdb_file.proofs.Common.{◌≡◌, ◌<◌, ◌^◌, length, refl, w32, to_be_bytes, err_from_is_err_and}
 use Rattle.vdb_file.proofs.Fronts.{fails_turn}
 use Rattle.vdb_file.proofs.loading.fields.take_u32.Goals as goal
 

@@ -1,6 +1,4 @@
-use Rattle.std.proofs.Common.{[], ◌∷◌, length, refl, ◌≡◌}
-use Rattle.std.proofs.lemmas.Result.{err_from_is_err_and}
-use Rattle.std.specs.Prelude.{⊤}
+use Rattle.vdb_file.proofs.Common.{[], ◌∷◌, length, refl, ◌≡◌, err_from_is_err_and, ⊤}
 use Rattle.vdb_file.proofs.Fronts.{fails_turn}
 use Rattle.vdb_file.proofs.loading.fields.take_u8.Goals as goal
 

@@ -1,5 +1,4 @@
-use Rattle.std.proofs.Common.{◌≡◌, true, false, sym, ◌∙◌}
-use Rattle.std.proofs.lemmas.Result.{err_from_is_err_and}
+use Rattle.vdb_file.proofs.Common.{◌≡◌, true, false, sym, ◌∙◌, err_from_is_err_and}
 use Rattle.vdb_file.proofs.HeadParts.{no_limit, other_limit}
 use Rattle.vdb_file.proofs.loading.grid_head.take_limit.Goals as goal
 

@@ -1,12 +1,6 @@
-use Rattle.std.proofs.Common.{rules}
-use Rattle.std.specs.Prelude.{FitsSigned, ⊤}
-use Rattle.std.specs.Int.{w32, w64}
-use Rattle.std.specs.Ordering.{int_eq}
-use Rattle.std.proofs.Math.Bool.{beq}
-use Rattle.std.proofs.lemmas.Result.{err_from_is_err_and}
-use Rattle.vdb_value.specs.Values.{number_bytes, truth_bytes}
+use Rattle.vdb_file.proofs.Common.{rules, FitsSigned, ⊤, w32, w64, int_eq, beq, err_from_is_err_and, number_bytes, truth_bytes, I32, I64}
 use Rattle.vdb_value.specs.declared.Kind.TheVariants as kinds
-use Rattle.vdb_scene.specs.declared.scalar.Scalar.TheVariants.{Bool as truth, I32, I64}
+use Rattle.vdb_scene.specs.declared.scalar.Scalar.TheVariants.{Bool as truth}
 use Rattle.vdb_file.proofs.GridParts.{no_kind}
 use Rattle.vdb_file.proofs.KindsOfValues.{are_i32s, are_i64s, are_truths, number_of, truth_of}
 use Rattle.vdb_file.proofs.TypedGrids.{no_typed, tree_typed}

@@ -1,7 +1,4 @@
-use Rattle.std.proofs.Common.{ap}
-use Rattle.std.proofs.lemmas.Result.{err_from_is_err_and}
-use Rattle.vdb_coord.specs.Blocks.{vdb}
-use Rattle.vdb_tree.specs.Layout.{field_of}
+use Rattle.vdb_file.proofs.Common.{ap, err_from_is_err_and, vdb, field_of}
 use Rattle.vdb_file.specs.internal.Parts.{head_view}
 use Rattle.vdb_file.proofs.GridParts.{no_background, no_head, no_roots, tree_read}
 use Rattle.vdb_file.proofs.ValueCodes.{value_code}

@@ -1,12 +1,5 @@
-use Rattle.std.proofs.Common.{◌≡◌, ◌∙◌, ◌<◌, ℕ, refl, subst, arith, rules}
-use Rattle.std.proofs.lemmas.Result.{err_from_is_err_and}
-use Rattle.vdb_coord.specs.Blocks.{entries, vdb}
-use Rattle.vdb_coord.specs.declared.Level.TheVariants.{Leaf}
-use Rattle.vdb_node.specs.Leaf.{SetsVoxel}
-use Rattle.vdb_node.specs.Nodes.{entry_count}
-use Rattle.vdb_tree.proofs.Uniform.{exact_by}
+use Rattle.vdb_file.proofs.Common.{◌≡◌, ◌∙◌, ◌<◌, ℕ, refl, subst, arith, rules, err_from_is_err_and, entries, vdb, Leaf, SetsVoxel, entry_count, exact_by, ahead}
 use Rattle.vdb_file.specs.declared.fault.LoadFault.TheVariants.{ConstantNode}
-use Rattle.vdb_file.specs.internal.Reading.{ahead}
 use Rattle.vdb_file.proofs.HeadCodes.{voxel_values}
 use Rattle.vdb_file.proofs.LeafReads.{first_cells, more_cells, none_read, shown_values, voxel_read, voxels_alike, voxels_differ, voxels_fail}
 use Rattle.vdb_file.proofs.Standard.{standard_bits, standard_leaf_small}

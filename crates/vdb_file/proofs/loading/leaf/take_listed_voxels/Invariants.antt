@@ -1,7 +1,4 @@
-use Rattle.std.proofs.Common.{◌≡◌, ℕ, Some}
-use Rattle.vdb_coord.specs.Blocks.{vdb}
-use Rattle.vdb_coord.specs.declared.Coord.{Coord}
-use Rattle.vdb_file.specs.internal.Reading.{EndsWith, GaveWithin, ahead, byte_total}
+use Rattle.vdb_file.proofs.Common.{◌≡◌, ℕ, Some, vdb, Coord, EndsWith, GaveWithin, ahead, byte_total}
 use Rattle.vdb_file.proofs.LeafReads.{AreCells, HasRead}
 use Rattle.vdb_file.proofs.loading.leaf.take_listed_voxels.Given as goal
 

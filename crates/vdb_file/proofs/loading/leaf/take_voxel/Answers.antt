@@ -1,9 +1,4 @@
-use Rattle.std.proofs.Common.{◌≡◌, ◌+◌, ap, arith, length, length-take}
-use Rattle.std.specs.Int.{w16, to_be_bytes}
-use Rattle.std.proofs.lemmas.Result.{err_from_is_err_and}
-use Rattle.vdb_value.specs.Values.{byte_count}
-use Rattle.vdb_file.specs.Bodies.{cell_bytes}
-use Rattle.vdb_file.specs.internal.Reading.{ahead}
+use Rattle.vdb_file.proofs.Common.{◌≡◌, ◌+◌, ap, arith, length, length-take, w16, to_be_bytes, err_from_is_err_and, byte_count, cell_bytes, ahead}
 use Rattle.vdb_file.proofs.LeafReads.{no_cell, no_index, voxel_answer}
 use Rattle.vdb_file.proofs.FieldBytes.{front_read}
 use Rattle.vdb_file.proofs.Fronts.{took_both}

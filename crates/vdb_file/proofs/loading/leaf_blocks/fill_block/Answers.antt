@@ -1,11 +1,4 @@
-use Rattle.std.proofs.Common.{◌∙◌, ap, subst}
-use Rattle.std.specs.Prelude.{Err}
-use Rattle.vdb_coord.specs.Blocks.{block_around, vdb}
-use Rattle.vdb_coord.specs.Space.{Box}
-use Rattle.vdb_coord.specs.declared.Level.TheVariants.{Upper}
-use Rattle.vdb_tree.specs.Field.{fill}
-use Rattle.vdb_tree.specs.Layout.{cell_at, field_of}
-use Rattle.vdb_tree.specs.Outcome.{IsOutcome}
+use Rattle.vdb_file.proofs.Common.{◌∙◌, ap, subst, Err, block_around, vdb, Box, Upper, fill, cell_at, field_of, IsOutcome}
 use Rattle.vdb_file.proofs.LoadedBlocks.{fill_keeps, in_upper, kept_wider, no_root_limit}
 use Rattle.vdb_file.proofs.loading.leaf_blocks.fill_block.Goals as goal
 

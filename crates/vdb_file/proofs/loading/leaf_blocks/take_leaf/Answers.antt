@@ -1,11 +1,4 @@
-use Rattle.std.proofs.Common.{rules, subst, sym}
-use Rattle.std.proofs.lemmas.Result.{err_from_is_err_and, on_ok_weaker}
-use Rattle.vdb_coord.specs.Blocks.{block_around, vdb}
-use Rattle.vdb_coord.specs.declared.Level.TheVariants.{Leaf}
-use Rattle.vdb_coord.proofs.Meeting.{fits_everywhere}
-use Rattle.vdb_tree.specs.Layout.{cell_at, field_of}
-use Rattle.vdb_tree.proofs.Uniform.{exact_by}
-use Rattle.vdb_file.specs.internal.LoadedFields.{KeptOutside}
+use Rattle.vdb_file.proofs.Common.{rules, subst, sym, err_from_is_err_and, on_ok_weaker, block_around, vdb, Leaf, fits_everywhere, cell_at, field_of, exact_by, KeptOutside}
 use Rattle.vdb_file.proofs.HeadCodes.{voxel_values}
 use Rattle.vdb_file.proofs.BlockResults.{leaf_result}
 use Rattle.vdb_file.proofs.LoadedBlocks.{background_value, leaf_keeps}

@@ -1,10 +1,4 @@
-use Rattle.std.proofs.Common.{◌∙◌, ap, rules}
-use Rattle.std.specs.Prelude.{Err}
-use Rattle.vdb_coord.specs.Blocks.{block_around, vdb}
-use Rattle.vdb_coord.specs.declared.Level.TheVariants.{Leaf, Upper}
-use Rattle.vdb_coord.proofs.Meeting.{fits_everywhere}
-use Rattle.vdb_tree.specs.Layout.{cell_at, field_of}
-use Rattle.vdb_tree.specs.Leaves.{with_leaf}
+use Rattle.vdb_file.proofs.Common.{◌∙◌, ap, rules, Err, block_around, vdb, Leaf, Upper, fits_everywhere, cell_at, field_of, with_leaf}
 use Rattle.vdb_file.proofs.LoadedBlocks.{in_upper, kept_wider, leaf_keeps, no_root_limit}
 use Rattle.vdb_file.proofs.Standard.{standard_bits}
 use Rattle.vdb_file.proofs.loading.leaf_blocks.write_leaf_block.Goals as goal

@@ -1,9 +1,4 @@
-use Rattle.std.proofs.Common.{rules, ◌≡◌, ◌++◌, ◌∷◌, [], ◌∙◌, length-append, sym, subst, arith}
-use Rattle.std.specs.Prelude.{None}
-use Rattle.std.proofs.lemmas.Result.{err_from_is_err_and}
-use Rattle.vdb_scene.specs.ValidScenes.{IsPair}
-use Rattle.vdb_file.specs.internal.Parts.{IsItem, name_of, pair_bytes}
-use Rattle.vdb_file.specs.internal.Reading.{Fails, ahead}
+use Rattle.vdb_file.proofs.Common.{rules, ◌≡◌, ◌++◌, ◌∷◌, [], ◌∙◌, length-append, sym, subst, arith, None, err_from_is_err_and, IsPair, IsItem, name_of, pair_bytes, Fails, ahead}
 use Rattle.vdb_file.proofs.Items.{are_items, chain_more, fails_within, last_more, more_read, put_last}
 use Rattle.vdb_file.proofs.PairParts.{pair_code}
 use Rattle.vdb_file.proofs.loading.metas.take_each_pair.Goals as goal

@@ -1,9 +1,4 @@
-use Rattle.std.proofs.Common.{◌≡◌, length, ℕ, Some}
-use Rattle.std.specs.Prelude.{None}
-use Rattle.std.specs.List.{flat_map}
-use Rattle.vdb_scene.specs.ValidScenes.{IsPair}
-use Rattle.vdb_file.specs.internal.Parts.{name_of, pair_bytes}
-use Rattle.vdb_file.specs.internal.Reading.{EndsWith, GaveWithin, Took, ahead, byte_total}
+use Rattle.vdb_file.proofs.Common.{◌≡◌, length, ℕ, Some, None, flat_map, IsPair, name_of, pair_bytes, EndsWith, GaveWithin, Took, ahead, byte_total}
 use Rattle.vdb_file.proofs.Items.{IsChain, last_of}
 use Rattle.vdb_file.proofs.loading.metas.take_each_pair.Given as goal
 

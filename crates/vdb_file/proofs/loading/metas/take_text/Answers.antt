@@ -1,5 +1,4 @@
-use Rattle.std.proofs.Common.{rules, ◌≡◌, true, false}
-use Rattle.vdb_scene.specs.Metas.{is_text}
+use Rattle.vdb_file.proofs.Common.{rules, ◌≡◌, true, false, is_text}
 use Rattle.vdb_file.proofs.Texts.{no_text}
 use Rattle.vdb_file.proofs.loading.metas.take_text.Goals as goal
 

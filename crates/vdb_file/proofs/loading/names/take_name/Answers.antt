@@ -1,8 +1,5 @@
-use Rattle.std.proofs.Common.{rules, ◌≡◌, true, false, sym, subst, ◌∙◌}
-use Rattle.std.specs.Ordering.{nat_cmp}
-use Rattle.std.specs.Cmp.Lexicographic.{slice_cmp}
+use Rattle.vdb_file.proofs.Common.{rules, ◌≡◌, true, false, sym, subst, ◌∙◌, nat_cmp, slice_cmp, Follows}
 use Rattle.vdb_scene.specs.Names.{is_name}
-use Rattle.vdb_file.specs.internal.Following.{Follows}
 use Rattle.vdb_file.specs.internal.Parts.{IsNext}
 use Rattle.vdb_file.proofs.Texts.{no_text}
 use Rattle.vdb_file.proofs.loading.names.take_name.Goals as goal

@@ -1,11 +1,4 @@
-use Rattle.std.proofs.Common.{ℕ, ◌+◌, ◌∙◌, ◌≤◌, refl, rules, subst, sym}
-use Rattle.std.specs.Prelude.{None, Some}
-use Rattle.std.proofs.lemmas.Result.{err_from_is_err_and}
-use Rattle.vdb_coord.specs.Blocks.{vdb}
-use Rattle.vdb_coord.specs.Space.{everywhere}
-use Rattle.vdb_tree.specs.Layout.{field_of}
-use Rattle.vdb_tree.proofs.Uniform.{exact_by}
-use Rattle.vdb_file.specs.internal.Reading.{ahead}
+use Rattle.vdb_file.proofs.Common.{ℕ, ◌+◌, ◌∙◌, ◌≤◌, refl, rules, subst, sym, None, Some, err_from_is_err_and, vdb, everywhere, field_of, exact_by, ahead}
 use Rattle.vdb_file.proofs.HeadCodes.{voxel_values}
 use Rattle.vdb_file.proofs.RootReads.{more_roots, no_next_root, no_roots, roots_loadable}
 use Rattle.vdb_file.proofs.RowInstances.{is_root_row}

@@ -1,11 +1,4 @@
-use Rattle.std.proofs.Common.{◌≡◌, ◌<◌, ℕ, Some}
-use Rattle.vdb_coord.specs.Blocks.{block, vdb}
-use Rattle.vdb_coord.specs.Space.{everywhere}
-use Rattle.vdb_coord.specs.declared.Level.TheVariants.{Upper}
-use Rattle.vdb_tree.specs.Layout.{field_of}
-use Rattle.vdb_file.specs.internal.LoadedFields.{AreLoadable}
-use Rattle.vdb_file.specs.internal.Loading.{IsKey}
-use Rattle.vdb_file.specs.internal.Reading.{EndsWith, GaveWithin, ahead, byte_total}
+use Rattle.vdb_file.proofs.Common.{◌≡◌, ◌<◌, ℕ, Some, block, vdb, everywhere, Upper, field_of, AreLoadable, IsKey, EndsWith, GaveWithin, ahead, byte_total}
 use Rattle.vdb_file.proofs.RowInstances.{root_row}
 use Rattle.vdb_file.proofs.RowLoops.{IsUnderway}
 use Rattle.vdb_file.proofs.loading.roots.take_keyed_roots.Given as goal

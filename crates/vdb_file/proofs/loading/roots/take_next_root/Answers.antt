@@ -1,9 +1,4 @@
-use Rattle.std.proofs.lemmas.Result.{err_from_is_err_and}
-use Rattle.vdb_coord.specs.Blocks.{block, vdb}
-use Rattle.vdb_coord.specs.declared.Level.TheVariants.{Upper}
-use Rattle.vdb_tree.specs.Layout.{field_of}
-use Rattle.vdb_file.specs.Bodies.{key_bytes, root_body}
-use Rattle.vdb_file.specs.internal.Loading.{IsKey}
+use Rattle.vdb_file.proofs.Common.{err_from_is_err_and, block, vdb, Upper, field_of, key_bytes, root_body, IsKey}
 use Rattle.vdb_file.proofs.NextReads.{both_next, key_says, no_block_next, no_number_next}
 use Rattle.vdb_file.proofs.loading.roots.take_next_root.Goals as goal
 

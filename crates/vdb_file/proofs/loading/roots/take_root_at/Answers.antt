@@ -1,13 +1,4 @@
-use Rattle.std.proofs.Common.{◌∙◌, ap, subst}
-use Rattle.std.proofs.lemmas.Result.{on_ok_weaker}
-use Rattle.vdb_coord.specs.Blocks.{block, block_around, vdb}
-use Rattle.vdb_coord.specs.Space.{Box}
-use Rattle.vdb_coord.specs.declared.Level.TheVariants.{Upper}
-use Rattle.vdb_coord.proofs.InRange.{number_of_corner}
-use Rattle.vdb_tree.specs.Layout.{field_of}
-use Rattle.vdb_file.specs.Bodies.{root_body}
-use Rattle.vdb_file.specs.internal.LoadedFields.{KeptOutside, ShowsIn}
-use Rattle.vdb_file.specs.internal.Reading.{Reads, ahead}
+use Rattle.vdb_file.proofs.Common.{◌∙◌, ap, subst, on_ok_weaker, block, block_around, vdb, Box, Upper, number_of_corner, field_of, root_body, KeptOutside, ShowsIn, Reads, ahead}
 use Rattle.vdb_file.proofs.loading.roots.take_root_at.Goals as goal
 
 pub returns-clause-reads : goal.returns-clause-reads

@@ -1,7 +1,4 @@
-use Rattle.std.proofs.Common.{◌<◌, ◌^◌, arith, rules}
-use Rattle.std.proofs.lemmas.Result.{err_from_is_err_and}
-use Rattle.vdb_coord.specs.Blocks.{vdb}
-use Rattle.vdb_tree.specs.Layout.{cell_at}
+use Rattle.vdb_file.proofs.Common.{◌<◌, ◌^◌, arith, rules, err_from_is_err_and, vdb, cell_at}
 use Rattle.vdb_file.proofs.RootReads.{no_root_count, roots_result, too_many_roots}
 use Rattle.vdb_file.proofs.loading.roots.take_roots.Goals as goal
 

@@ -1,10 +1,6 @@
-use Rattle.std.proofs.Common.{rules, ◌≡◌, length, true, false, not, nat_eq, refl, sym, subst, ◌∙◌}
-use Rattle.std.specs.Prelude.{codes, ⊤}
-use Rattle.std.proofs.lemmas.Result.{err_from_is_err_and}
+use Rattle.vdb_file.proofs.Common.{rules, ◌≡◌, length, true, false, not, refl, sym, subst, ◌∙◌, codes, ⊤, err_from_is_err_and, Claims, IsInner, Magic, Truncated}
+use Rattle.std.proofs.Common.{nat_eq}
 use Rattle.std.specs.Cmp.Lexicographic.{pointwise}
-use Rattle.vdb_file.specs.Faults.{Claims}
-use Rattle.vdb_file.specs.internal.FieldFaults.{IsInner}
-use Rattle.vdb_file.specs.declared.fault.LoadFault.TheVariants.{Magic, Truncated}
 use Rattle.vdb_file.proofs.Fronts.{fails_turn}
 use Rattle.vdb_file.proofs.Beginnings.{fewer_than, has_other_magic, inner_magic, other_magic}
 use Rattle.vdb_file.proofs.loading.versions.take_magic.Goals as goal

@@ -1,8 +1,5 @@
-use Rattle.std.proofs.Common.{◌≡◌, subst, sym}
-use Rattle.std.proofs.lemmas.Result.{err_from_is_err_and}
-use Rattle.vdb_file.specs.Faults.{Claims}
-use Rattle.vdb_file.specs.internal.FieldFaults.{IsInner}
-use Rattle.vdb_file.specs.declared.fault.LoadFault.TheVariants.{Truncated, Version}
+use Rattle.vdb_file.proofs.Common.{◌≡◌, subst, sym, err_from_is_err_and, Claims, IsInner, Truncated}
+use Rattle.vdb_file.specs.declared.fault.LoadFault.TheVariants.{Version}
 use Rattle.vdb_file.proofs.Beginnings.{inner_version, no_other, no_version}
 use Rattle.vdb_file.proofs.loading.versions.take_version.Goals as goal
 

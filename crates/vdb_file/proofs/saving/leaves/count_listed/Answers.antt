@@ -1,7 +1,4 @@
-use Rattle.std.proofs.Common.{arith, ◌∙◌, ap, sym, length}
-use Rattle.vdb_coord.specs.Blocks.{block_around, entries, vdb}
-use Rattle.vdb_tree.specs.Layout.{field_of}
-use Rattle.vdb_tree.proofs.Constants.{entries_few}
+use Rattle.vdb_file.proofs.Common.{arith, ◌∙◌, ap, sym, length, block_around, entries, vdb, field_of, entries_few}
 use Rattle.vdb_file.proofs.ListedEntries.{flat, listed_is}
 use Rattle.vdb_file.proofs.Passing.{others, others_counted, others_end, passing_few}
 use Rattle.vdb_file.proofs.Standard.{standard_bits}

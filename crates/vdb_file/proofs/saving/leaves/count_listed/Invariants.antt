@@ -1,8 +1,4 @@
-use Rattle.std.proofs.Common.{◌≡◌, ◌≤◌, ◌-◌, length, not}
-use Rattle.vdb_coord.specs.Blocks.{block_around, entries, sub_block, vdb}
-use Rattle.vdb_tree.specs.ConstantBlocks.{is_background}
-use Rattle.vdb_tree.specs.Layout.{field_of}
-use Rattle.vdb_file.specs.internal.Written.{passing}
+use Rattle.vdb_file.proofs.Common.{◌≡◌, ◌≤◌, ◌-◌, length, not, block_around, entries, sub_block, vdb, is_background, field_of, passing}
 use Rattle.vdb_file.proofs.saving.leaves.count_listed.Given as goal
 
 -- the listed entries among those passed are counted

@@ -1,9 +1,5 @@
-use Rattle.std.proofs.Common.{arith, ◌≡◌, ◌≤◌, ◌∙◌, ℕ, ◌+◌, ◌-◌, refl, ap, sym, drop, length, length-drop, length-take-le, take}
+use Rattle.vdb_file.proofs.Common.{arith, ◌≡◌, ◌≤◌, ◌∙◌, ℕ, ◌+◌, ◌-◌, refl, ap, sym, drop, length, length-drop, length-take-le, take, put_mid, same_len_mid, cell_in, cell_bytes, numbered, passing}
 use Rattle.std.proofs.lemmas.Slice.{take-put_mid_below}
-use borrow.Rule.Slice.PartMut.{put_mid, same_len_mid}
-use Rattle.vdb_node.specs.Leaf.{cell_in}
-use Rattle.vdb_file.specs.Bodies.{cell_bytes}
-use Rattle.vdb_file.specs.internal.Written.{numbered, passing}
 use Rattle.vdb_file.proofs.LeafVoxels.{part_kept, stands, voxel_added, voxel_counted, voxel_left, voxel_passed}
 use Rattle.vdb_file.proofs.Passing.{passing_few}
 use Rattle.vdb_file.proofs.saving.leaves.encode_voxels.Goals as goal

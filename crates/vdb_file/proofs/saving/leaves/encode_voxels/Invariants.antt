@@ -1,8 +1,4 @@
-use Rattle.std.proofs.Common.{◌≡◌, ◌≤◌, ◌*◌, length, take}
-use Rattle.vdb_node.specs.Leaf.{cell_in}
-use Rattle.vdb_value.specs.declared.Cell.{Cell}
-use Rattle.vdb_file.specs.Bodies.{cell_bytes}
-use Rattle.vdb_file.specs.internal.Written.{numbered, passing}
+use Rattle.vdb_file.proofs.Common.{◌≡◌, ◌≤◌, ◌*◌, length, take, cell_in, Cell, cell_bytes, numbered, passing}
 use Rattle.vdb_file.proofs.LeafVoxels.{stands}
 use Rattle.vdb_file.proofs.saving.leaves.encode_voxels.Given as goal
 

@@ -1,9 +1,4 @@
-use Rattle.std.proofs.Common.{◌≡◌, ◌∙◌, arith, ap}
-use Rattle.vdb_coord.specs.Blocks.{vdb}
-use Rattle.vdb_coord.specs.Space.{Box}
-use Rattle.vdb_tree.specs.Layout.{field_of}
-use Rattle.vdb_tree.proofs.Constants.{entries_few}
-use Rattle.vdb_tree.proofs.Uniform.{exact_by}
+use Rattle.vdb_file.proofs.Common.{◌≡◌, ◌∙◌, arith, ap, vdb, Box, field_of, entries_few, exact_by}
 use Rattle.vdb_file.proofs.ListedEntries.{around, flat_more, flat_rest, flat_test, listed_next}
 use Rattle.vdb_file.proofs.Standard.{standard_bits}
 use Rattle.vdb_file.proofs.saving.leaves.next_listed.Goals as goal

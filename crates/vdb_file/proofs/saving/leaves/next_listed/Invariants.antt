@@ -1,7 +1,4 @@
-use Rattle.std.proofs.Common.{◌≡◌, ◌≤◌, ◌<◌, ◌-◌, ℕ, true}
-use Rattle.vdb_coord.specs.Blocks.{block_around, entries, sub_block, vdb}
-use Rattle.vdb_tree.specs.ConstantBlocks.{is_background}
-use Rattle.vdb_tree.specs.Layout.{field_of}
+use Rattle.vdb_file.proofs.Common.{◌≡◌, ◌≤◌, ◌<◌, ◌-◌, ℕ, true, block_around, entries, sub_block, vdb, is_background, field_of}
 use Rattle.vdb_file.proofs.saving.leaves.next_listed.Given as goal
 
 -- the entries before this one are background

@@ -1,9 +1,5 @@
-use Rattle.std.proofs.Common.{◌≡◌, ◌∙◌, arith, rules}
-use Rattle.vdb_coord.specs.Blocks.{entries, vdb}
-use Rattle.vdb_coord.specs.declared.Level.TheVariants.{Leaf}
-use Rattle.vdb_coord.proofs.Meeting.{fits_everywhere}
+use Rattle.vdb_file.proofs.Common.{◌≡◌, ◌∙◌, arith, rules, entries, vdb, Leaf, fits_everywhere, exact_by}
 use Rattle.vdb_tree.proofs.Constants.{entries_some, last_ends, last_within}
-use Rattle.vdb_tree.proofs.Uniform.{exact_by}
 use Rattle.vdb_file.proofs.LeafVoxels.{one_at, one_test}
 use Rattle.vdb_file.proofs.Standard.{standard_bits, standard_leaf_small}
 use Rattle.vdb_file.proofs.saving.leaves.one_cell.Goals as goal

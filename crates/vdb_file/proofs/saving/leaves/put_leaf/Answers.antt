@@ -1,11 +1,4 @@
-use Rattle.std.proofs.Common.{◌∙◌, refl, sym, rules}
-use Rattle.std.proofs.lemmas.Result.{on_ok_weaker}
-use Rattle.vdb_coord.specs.Blocks.{block_around, vdb}
-use Rattle.vdb_coord.specs.declared.Level.TheVariants.{Leaf}
-use Rattle.vdb_coord.proofs.Meeting.{fits_everywhere}
-use Rattle.vdb_tree.specs.Layout.{field_of}
-use Rattle.vdb_tree.proofs.Uniform.{exact_by}
-use Rattle.vdb_file.specs.Bodies.{voxel_body}
+use Rattle.vdb_file.proofs.Common.{◌∙◌, refl, sym, rules, on_ok_weaker, block_around, vdb, Leaf, fits_everywhere, field_of, exact_by, voxel_body}
 use Rattle.vdb_file.proofs.LeafVoxels.{one_everywhere}
 use Rattle.vdb_file.proofs.PutBlocks.{cell_put}
 use Rattle.vdb_file.proofs.Standard.{standard_bits}

@@ -1,12 +1,4 @@
-use Rattle.std.proofs.Common.{◌≡◌, ◌∙◌, arith, ap, sym, length, rules}
-use Rattle.std.proofs.lemmas.Result.{on_ok_weaker}
-use Rattle.vdb_coord.specs.Blocks.{block_around, entries, vdb}
-use Rattle.vdb_coord.specs.declared.Level.TheVariants.{Leaf}
-use Rattle.vdb_coord.proofs.Meeting.{fits_everywhere}
-use Rattle.vdb_tree.specs.Field.{off}
-use Rattle.vdb_tree.specs.Layout.{field_of}
-use Rattle.vdb_tree.proofs.Uniform.{exact_by}
-use Rattle.vdb_file.specs.Bodies.{voxel_body}
+use Rattle.vdb_file.proofs.Common.{◌≡◌, ◌∙◌, arith, ap, sym, length, rules, on_ok_weaker, block_around, entries, vdb, Leaf, fits_everywhere, off, field_of, exact_by, voxel_body}
 use Rattle.vdb_file.proofs.LeafVoxels.{listed_voxels, voxels_put}
 use Rattle.vdb_file.proofs.Outputs.{puts_same}
 use Rattle.vdb_file.proofs.PutBlocks.{node_put}

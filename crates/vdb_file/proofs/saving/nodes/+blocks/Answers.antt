@@ -1,15 +1,4 @@
-use Rattle.std.proofs.Common.{◌≡◌, ◌∙◌, ◌++◌, ap, arith, refl, rules, subst, sym}
-use Rattle.std.proofs.lemmas.Result.{on_ok_weaker}
-use Rattle.std.specs.Int.{w16, to_be_bytes}
-use Rattle.vdb_coord.specs.Blocks.{block_around, vdb}
-use Rattle.vdb_coord.specs.Space.{Box}
-use Rattle.vdb_coord.proofs.Meeting.{fits_everywhere}
-use Rattle.vdb_tree.specs.Layout.{field_of}
-use Rattle.vdb_tree.proofs.Constants.{entries_few}
-use Rattle.vdb_tree.proofs.Uniform.{exact_by}
-use Rattle.vdb_scene.specs.Watched.{source}
-use Rattle.vdb_file.specs.internal.Levels.{level_body}
-use Rattle.vdb_file.specs.internal.Written.{Puts, sent}
+use Rattle.vdb_file.proofs.Common.{◌≡◌, ◌∙◌, ◌++◌, ap, arith, refl, rules, subst, sym, on_ok_weaker, w16, to_be_bytes, block_around, vdb, Box, fits_everywhere, field_of, entries_few, exact_by, source, level_body, Puts, sent}
 use Rattle.vdb_file.proofs.LeafVoxels.{one_everywhere}
 use Rattle.vdb_file.proofs.ListedEntries.{around, entry_block}
 use Rattle.vdb_file.proofs.PutBlocks.{all_put, cell_put, listed_put, node_put}

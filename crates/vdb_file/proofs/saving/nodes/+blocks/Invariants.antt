@@ -1,9 +1,4 @@
-use Rattle.std.proofs.Common.{◌≡◌, ◌≤◌, ◌+◌, ◌-◌, ◌*◌}
-use Rattle.vdb_coord.specs.Blocks.{entries, vdb}
-use Rattle.vdb_tree.specs.Layout.{field_of}
-use Rattle.vdb_scene.specs.Watched.{has_failed, source}
-use Rattle.vdb_file.specs.internal.Levels.{level_body}
-use Rattle.vdb_file.specs.internal.Written.{Puts, numbered, passing, sent}
+use Rattle.vdb_file.proofs.Common.{◌≡◌, ◌≤◌, ◌+◌, ◌-◌, ◌*◌, entries, vdb, field_of, has_failed, source, level_body, Puts, numbered, passing, sent}
 use Rattle.vdb_file.proofs.Levels.{rank}
 use Rattle.vdb_file.proofs.ListedEntries.{around, flat}
 use Rattle.vdb_file.proofs.Passing.{others}

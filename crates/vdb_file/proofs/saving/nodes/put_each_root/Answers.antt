@@ -1,15 +1,5 @@
-use Rattle.std.proofs.Common.{◌≡◌, ◌∙◌, ◌++◌, ℕ, List, ap, refl, subst, sym, not, rules}
-use Rattle.std.specs.List.{flat_map}
-use Rattle.vdb_coord.specs.Blocks.{block, vdb}
-use Rattle.vdb_coord.specs.Space.{Box}
-use Rattle.vdb_coord.specs.declared.Coord.{Coord}
-use Rattle.vdb_coord.specs.declared.Level.TheVariants.{Upper}
-use Rattle.vdb_tree.specs.Layout.{field_of}
+use Rattle.vdb_file.proofs.Common.{◌≡◌, ◌∙◌, ◌++◌, ℕ, List, ap, refl, subst, sym, not, rules, flat_map, block, vdb, Box, Coord, Upper, field_of, exact_by, source, key_bytes, root_body, Puts, sent}
 use Rattle.vdb_tree.proofs.KeysPast.{fewer_past}
-use Rattle.vdb_tree.proofs.Uniform.{exact_by}
-use Rattle.vdb_scene.specs.Watched.{source}
-use Rattle.vdb_file.specs.Bodies.{key_bytes, root_body}
-use Rattle.vdb_file.specs.internal.Written.{Puts, sent}
 use Rattle.vdb_file.proofs.Outputs.{puts_none, puts_same}
 use Rattle.vdb_file.proofs.PutRoots.{around_corner, put_end, put_first, root_left, root_put, shown}
 use Rattle.vdb_file.proofs.Standard.{standard_bits}

@@ -1,12 +1,5 @@
-use Rattle.std.proofs.Common.{◌≡◌, ◌++◌}
-use Rattle.std.specs.List.{flat_map}
-use Rattle.vdb_coord.specs.Blocks.{block, vdb}
-use Rattle.vdb_coord.specs.declared.Level.TheVariants.{Upper}
-use Rattle.vdb_tree.specs.Layout.{field_of}
+use Rattle.vdb_file.proofs.Common.{◌≡◌, ◌++◌, flat_map, block, vdb, Upper, field_of, has_failed, source, key_bytes, root_body, Puts, sent}
 use Rattle.vdb_tree.proofs.KeysPast.{keys_past}
-use Rattle.vdb_scene.specs.Watched.{has_failed, source}
-use Rattle.vdb_file.specs.Bodies.{key_bytes, root_body}
-use Rattle.vdb_file.specs.internal.Written.{Puts, sent}
 use Rattle.vdb_file.proofs.PutRoots.{put_keys}
 use Rattle.vdb_file.proofs.saving.nodes.put_each_root.Given as goal
 

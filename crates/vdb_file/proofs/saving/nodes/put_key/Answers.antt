@@ -1,7 +1,4 @@
-use Rattle.std.proofs.Common.{◌≡◌, rules}
-use Rattle.std.proofs.lemmas.Result.{on_ok_weaker}
-use Rattle.std.specs.Int.{w32}
-use Rattle.vdb_value.specs.Values.{number_bytes}
+use Rattle.vdb_file.proofs.Common.{◌≡◌, rules, on_ok_weaker, w32, number_bytes}
 use Rattle.vdb_file.proofs.Outputs.{puts_same, puts_then}
 use Rattle.vdb_file.proofs.saving.nodes.put_key.Goals as goal
 

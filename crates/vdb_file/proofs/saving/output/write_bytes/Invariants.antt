@@ -1,6 +1,5 @@
-use Rattle.std.proofs.Common.{◌≡◌, ◌≤◌, ◌-◌, length, take}
+use Rattle.vdb_file.proofs.Common.{◌≡◌, ◌≤◌, ◌-◌, length, take, has_failed, source}
 use Rattle.std.specs.Io.KnownBytes.{Appends}
-use Rattle.vdb_scene.specs.Watched.{has_failed, source}
 use Rattle.vdb_file.proofs.saving.output.write_bytes.Given as goal
 
 -- the bytes that the writer took so far

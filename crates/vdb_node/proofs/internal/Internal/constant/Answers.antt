@@ -1,6 +1,4 @@
-use Rattle.std.proofs.lemmas.Bool.{cases_lt}
-use Rattle.std.proofs.Common.{inl, inr}
-use Rattle.vdb_node.specs.Nodes.{entry_count}
+use Rattle.vdb_node.proofs.Common.{cases_lt, inl, inr, entry_count}
 use Rattle.vdb_node.proofs.Entries.{constant_alike, constant_mixed}
 use Rattle.vdb_node.proofs.Listed.{entry_count-pos}
 use Rattle.vdb_node.proofs.internal.Internal.constant.Goals as goal

@@ -1,7 +1,4 @@
-use Rattle.std.proofs.Common.{◌∙◌, ap, refl}
-use Rattle.vdb_node.specs.Entries.{entry_of}
-use Rattle.vdb_node.specs.Nodes.{entry_count}
-use Rattle.vdb_node.specs.declared.Entry.TheVariants.{Child}
+use Rattle.vdb_node.proofs.Common.{◌∙◌, ap, refl, entry_of, entry_count, Child}
 use Rattle.vdb_node.proofs.Entries.{entry_of-child, entry_of-tile}
 use Rattle.vdb_node.proofs.Listed.{get_or-listed}
 use Rattle.vdb_node.proofs.internal.Internal.entry.Goals as goal

@@ -1,5 +1,4 @@
-use Rattle.std.proofs.Common.{◌∙◌, arith}
-use Rattle.vdb_node.specs.Nodes.{entry_count}
+use Rattle.vdb_node.proofs.Common.{◌∙◌, arith, entry_count}
 use Rattle.vdb_node.proofs.Entries.{IsConstant-node_of}
 use Rattle.vdb_node.proofs.internal.Internal.new_constant.Goals as goal
 

@@ -1,8 +1,5 @@
-use Rattle.std.proofs.Common.{◌*◌, refl}
-use Rattle.std.specs.Prelude.{◌||◌}
-use Rattle.vdb_mask.specs.Mask.{is_on}
+use Rattle.vdb_node.proofs.Common.{◌*◌, refl, ◌||◌, is_on, entry_count}
 use Rattle.vdb_mask.proofs.MaskLemmas.{IsFirstOn-below}
-use Rattle.vdb_node.specs.Nodes.{entry_count}
 use Rattle.vdb_node.proofs.Entries.{IsFirstWithout-inactive}
 use Rattle.vdb_node.proofs.internal.Internal.next_active.Goals as goal
 

@@ -1,6 +1,5 @@
-use Rattle.std.proofs.Common.{◌*◌}
+use Rattle.vdb_node.proofs.Common.{◌*◌, entry_count}
 use Rattle.vdb_mask.proofs.MaskLemmas.{IsNext-on_below}
-use Rattle.vdb_node.specs.Nodes.{entry_count}
 use Rattle.vdb_node.proofs.Entries.{IsNextChild-listed}
 use Rattle.vdb_node.proofs.internal.Internal.next_child.Goals as goal
 

@@ -1,7 +1,4 @@
-use Rattle.std.proofs.Common.{◌≡◌, ◌<◌, ◌≤◌, ℕ, false, arith, inl, inr}
-use Rattle.std.proofs.lemmas.Bool.{cases_lt}
-use Rattle.vdb_mask.specs.Mask.{is_on}
-use Rattle.vdb_node.specs.Nodes.{entry_count}
+use Rattle.vdb_node.proofs.Common.{◌≡◌, ◌<◌, ◌≤◌, ℕ, false, arith, inl, inr, cases_lt, is_on, entry_count}
 use Rattle.vdb_node.proofs.Entries.{no_tile_of, tile_of}
 use Rattle.vdb_node.proofs.internal.Internal.next_unlike.Goals as goal
 

@@ -1,5 +1,4 @@
-use Rattle.std.proofs.Common.{◌≡◌, ◌-◌, ◌<◌, ◌≤◌, ℕ, false}
-use Rattle.vdb_mask.specs.Mask.{is_on}
+use Rattle.vdb_node.proofs.Common.{◌≡◌, ◌-◌, ◌<◌, ◌≤◌, ℕ, false, is_on}
 use Rattle.vdb_node.proofs.internal.Internal.next_unlike.Given as goal
 
 abbrev pub invariant-parts : goal.invariant-parts

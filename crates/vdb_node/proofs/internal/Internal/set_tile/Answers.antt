@@ -1,6 +1,4 @@
-use Rattle.std.proofs.Common.{◌∙◌, arith, refl}
-use Rattle.vdb_node.specs.Entries.{entry_of}
-use Rattle.vdb_node.specs.Nodes.{entry_count}
+use Rattle.vdb_node.proofs.Common.{◌∙◌, arith, refl, entry_of, entry_count}
 use Rattle.vdb_node.proofs.Entries.{entry_of-tile, SetsEntry-listed}
 use Rattle.vdb_node.proofs.internal.Internal.set_tile.Goals as goal
 

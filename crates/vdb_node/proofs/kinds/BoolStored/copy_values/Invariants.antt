@@ -1,5 +1,4 @@
-use Rattle.std.proofs.Common.{◌≡◌, ◌+◌, ◌<◌, ℕ, Bool, get_or}
-use Rattle.vdb_mask.specs.Mask.{is_on}
+use Rattle.vdb_node.proofs.Common.{◌≡◌, ◌+◌, ◌<◌, ℕ, Bool, get_or, is_on}
 use Rattle.vdb_node.proofs.kinds.BoolStored.copy_values.Given as goal
 
 abbrev pub invariant-values : goal.invariant-values

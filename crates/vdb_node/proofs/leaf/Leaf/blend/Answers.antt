@@ -1,11 +1,6 @@
-use Rattle.std.proofs.Common.{ℕ}
-use Rattle.vdb_mask.specs.Mask.{is_on}
-use Rattle.vdb_node.specs.Leaf.{cell_in}
-use Rattle.vdb_node.specs.Nodes.{entry_count}
+use Rattle.vdb_node.proofs.Common.{ℕ, is_on, cell_in, entry_count, blended, Cell}
 use Rattle.vdb_node.proofs.Leaves.{AreBlended-leaf_of, cell_in-leaf_of, LacksBlend-leaf_of, leaf_of}
 use Rattle.vdb_node.proofs.leaf.Leaf.blend.Goals as goal
-use Rattle.vdb_value.specs.Blends.{blended}
-use Rattle.vdb_value.specs.declared.Cell.{Cell}
 
 pub returns : goal.returns
 returns g c =

@@ -1,8 +1,6 @@
-use Rattle.vdb_node.specs.Nodes.{entry_count}
+use Rattle.vdb_node.proofs.Common.{entry_count, refl, blended}
 use Rattle.vdb_node.proofs.Leaves.{AreBlended-leaf_of, LacksBlend-leaf_of}
 use Rattle.vdb_node.proofs.leaf.Leaf.blend_with.Goals as goal
-use Rattle.std.proofs.Common.{refl}
-use Rattle.vdb_value.specs.Blends.{blended}
 
 pub returns : goal.returns
 returns g c =

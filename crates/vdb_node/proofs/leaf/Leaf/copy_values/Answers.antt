@@ -1,5 +1,4 @@
-use Rattle.std.proofs.Common.{◌+◌, ◌<◌, ◌≤◌, ℕ, ◌∙◌, arith, sym}
-use Rattle.vdb_node.specs.Nodes.{entry_count}
+use Rattle.vdb_node.proofs.Common.{◌+◌, ◌<◌, ◌≤◌, ℕ, ◌∙◌, arith, sym, entry_count}
 use Rattle.vdb_node.proofs.Listed.{get_or-listed}
 use Rattle.vdb_node.proofs.leaf.Leaf.copy_values.Goals as goal
 

@@ -1,7 +1,6 @@
+use Rattle.vdb_node.proofs.Common.{entry_count, ◌∙◌, ◌*◌}
 use Rattle.vdb_mask.proofs.MaskLemmas.{on_count-past}
-use Rattle.vdb_node.specs.Nodes.{entry_count}
 use Rattle.vdb_node.proofs.leaf.Leaf.count_on.Goals as goal
-use Rattle.std.proofs.Common.{◌∙◌, ◌*◌}
 
 pub returns : goal.returns
 returns g c =

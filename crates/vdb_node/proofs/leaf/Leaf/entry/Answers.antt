@@ -1,5 +1,4 @@
-use Rattle.std.proofs.Common.{◌∙◌, refl}
-use Rattle.vdb_node.specs.Nodes.{entry_count}
+use Rattle.vdb_node.proofs.Common.{◌∙◌, refl, entry_count}
 use Rattle.vdb_node.proofs.Leaves.{cell_in-leaf_of}
 use Rattle.vdb_node.proofs.leaf.Leaf.entry.Goals as goal
 

@@ -1,5 +1,4 @@
-use Rattle.std.proofs.Common.{◌<◌, ◌≤◌, ◌∙◌, ℕ, arith}
-use Rattle.std.proofs.lemmas.List.{get_or_past}
+use Rattle.vdb_node.proofs.Common.{◌<◌, ◌≤◌, ◌∙◌, ℕ, arith, get_or_past}
 use Rattle.vdb_node.proofs.values.Values.blend.Goals as goal
 
 between : (a i b : ℕ) → a ≤ i → i < b → a < b

@@ -1,6 +1,4 @@
-use Rattle.std.proofs.Common.{◌≡◌, ◌-◌, ◌<◌, ◌≤◌, ℕ, length}
-use Rattle.std.specs.Prelude.{if◌then◌else◌}
-use Rattle.vdb_mask.specs.Mask.{is_on}
+use Rattle.vdb_node.proofs.Common.{◌≡◌, ◌-◌, ◌<◌, ◌≤◌, ℕ, length, if◌then◌else◌, is_on}
 use Rattle.vdb_node.specs.Values.{capacity, value_of}
 use Rattle.vdb_node.proofs.values.Values.take_marked.Given as goal
 

@@ -1,7 +1,4 @@
-use Rattle.std.proofs.Common.{◌<◌, ◌-◌, ◌∷◌, length, sym, subst, ap, ◌∙◌, arith}
-use Rattle.std.proofs.lemmas.List.{length-map}
-use Rattle.vdb_pool.specs.internal.Slot.{node_of}
-use Rattle.vdb_pool.specs.internal.Stack.{linked}
+use Rattle.vdb_pool.proofs.Common.{◌<◌, ◌-◌, ◌∷◌, length, sym, subst, ap, ◌∙◌, arith, length-map, node_of, linked}
 use Rattle.vdb_pool.proofs.Changes.{extended_vacant}
 use Rattle.vdb_pool.proofs.pool.Pool.append_vacant.Goals as goal
 

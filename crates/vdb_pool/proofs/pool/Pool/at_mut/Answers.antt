@@ -1,9 +1,4 @@
-use Rattle.std.proofs.Common.{None, IsSome, refl, sym, subst, ap, ◌∙◌}
-use Rattle.std.proofs.lemmas.List.{map-set, get_or-map}
-use Rattle.std.proofs.lemmas.Option.{slice_get_within}
-use Rattle.vdb_pool.specs.Contents.{node_at}
-use Rattle.vdb_pool.specs.internal.Slot.{node_of}
-use Rattle.vdb_pool.specs.declared.slot.Slot.TheVariants.{Held}
+use Rattle.vdb_pool.proofs.Common.{None, IsSome, refl, sym, subst, ap, ◌∙◌, map-set, get_or-map, slice_get_within, node_at, node_of, Held}
 use Rattle.vdb_pool.proofs.Links.{held_at}
 use Rattle.vdb_pool.proofs.Changes.{rewritten}
 use Rattle.vdb_pool.proofs.pool.Pool.at_mut.Goals as goal

@@ -1,9 +1,6 @@
-use Rattle.std.proofs.Common.{◌≡◌, suc, ◌*◌, ◌+◌, List, [], ◌∷◌, ◌++◌, length, take, drop, refl, ap, subst, ◌∙◌, arith, length-append}
-use native.Mathlib.Nat.{suc-mul}
+use Rattle.vdb_pool.proofs.Common.{◌≡◌, suc, ◌*◌, ◌+◌, List, [], ◌∷◌, ◌++◌, length, take, refl, ap, subst, ◌∙◌, arith, length-append, suc-mul, Ptr, row_from, AreWhole, rows_of}
+use Rattle.std.proofs.Common.{drop}
 use lib.Seq.{take_at, drop_at}
-use denote.RawPtr.{Ptr}
-use Rattle.vdb_pool.specs.internal.Rows.{row_from}
-use Rattle.vdb_pool.specs.internal.Chunks.{AreWhole, rows_of}
 use Rattle.vdb_pool.proofs.Rows.{length-rows, rows_push, whole_last}
 use Rattle.vdb_pool.proofs.pool.Pool.drop.Goals as goal
 

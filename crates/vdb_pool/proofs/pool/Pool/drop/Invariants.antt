@@ -1,5 +1,4 @@
-use Rattle.std.proofs.Common.{◌≡◌, ◌≤◌, ◌<◌, ◌^◌, [], length}
-use Rattle.vdb_pool.specs.internal.Chunks.{AreWhole, rows_of}
+use Rattle.vdb_pool.proofs.Common.{◌≡◌, ◌≤◌, ◌<◌, ◌^◌, [], length, AreWhole, rows_of}
 use Rattle.vdb_pool.proofs.pool.Pool.drop.Given as goal
 
 abbrev pub invariant-loop-slot : goal.invariant-loop-slot

@@ -1,5 +1,4 @@
-use Rattle.std.proofs.Common.{◌≡◌, ◌<◌, ◌*◌, ◌-◌, ◌^◌, ◌++◌, [], ◌∷◌, length, arith, sym, ap, subst, ◌∙◌}
-use Rattle.vdb_pool.specs.declared.chunk.Chunk.{Chunk}
+use Rattle.vdb_pool.proofs.Common.{◌≡◌, ◌<◌, ◌*◌, ◌-◌, ◌^◌, ◌++◌, [], ◌∷◌, length, arith, sym, ap, subst, ◌∙◌, Chunk}
 use Rattle.vdb_pool.proofs.Rows.{length-rows, one_more_fits, grown}
 use Rattle.vdb_pool.proofs.pool.Pool.grow.Goals as goal
 

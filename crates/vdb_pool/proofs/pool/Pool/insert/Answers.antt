@@ -1,15 +1,9 @@
-use Rattle.std.proofs.Common.{◌≡◌, ◌-◌, ◌+◌, ◌<◌, ℕ, List, [], ◌∷◌, ◌++◌, length, set, get_or, map, Some, None, slice_get, refl, sym, subst, ap, ◌∙◌, arith, get_or-set_same}
-use Rattle.std.proofs.lemmas.List.{map-set, map_push, get_or-map, length-map}
-use Rattle.std.proofs.lemmas.Option.{slice_get_within, slice_get-get_or, get_or_from_slice_get}
-use denote.RawPtr.{null_ptr}
-use Rattle.vdb_pool.specs.Contents.{next_slot, spare_of, with_inserted}
-use Rattle.vdb_pool.specs.internal.Slot.{node_of}
-use Rattle.vdb_pool.specs.internal.Stack.{linked}
-use Rattle.vdb_pool.specs.declared.slot.Slot.TheVariants.{Vacant, Held}
+use Rattle.vdb_pool.proofs.Common.{◌≡◌, ◌-◌, ◌+◌, ◌<◌, ℕ, List, [], ◌∷◌, ◌++◌, length, set, get_or, map, Some, None, slice_get, refl, sym, subst, ap, ◌∙◌, arith, map-set, map_push, get_or-map, length-map, slice_get_within, get_or_from_slice_get, null_ptr, next_slot, spare_of, with_inserted, node_of, linked, Vacant, Held, KeepsLive, KeepsOthers}
+use Rattle.std.proofs.Common.{get_or-set_same}
+use Rattle.std.proofs.lemmas.Option.{slice_get-get_or}
 use Rattle.vdb_pool.proofs.Links.{top_found, none_of, length-linked}
 use Rattle.vdb_pool.proofs.Changes.{refilled, extended}
 use Rattle.vdb_pool.proofs.Inserted.{refills, extends, next_refill, next_new}
-use Rattle.vdb_pool.specs.Live.{KeepsLive, KeepsOthers}
 use Rattle.vdb_pool.proofs.Lives.{live_inserted, others_inserted, spare_inserted}
 use Rattle.std.proofs.lemmas.List.{get_or_past}
 use Rattle.vdb_pool.proofs.pool.Pool.insert.Goals as goal

@@ -1,5 +1,4 @@
-use Rattle.std.proofs.Common.{subst}
-use Rattle.vdb_pool.specs.Contents.{IsOrderly}
+use Rattle.vdb_pool.proofs.Common.{subst, IsOrderly}
 use Rattle.vdb_pool.proofs.Orderly.{orderly}
 use Rattle.vdb_pool.proofs.pool.Pool.len.Goals as goal
 

@@ -1,7 +1,4 @@
-use Rattle.std.proofs.Common.{◌≤◌, ◌-◌, arith, sym, subst}
-use Rattle.std.proofs.lemmas.List.{length-map}
-use Rattle.vdb_pool.specs.Contents.{spare_of}
-use Rattle.vdb_pool.specs.internal.Slot.{node_of}
+use Rattle.vdb_pool.proofs.Common.{◌≤◌, ◌-◌, arith, sym, subst, length-map, spare_of, node_of}
 use Rattle.vdb_pool.proofs.Links.{length-linked}
 use Rattle.vdb_pool.proofs.pool.Pool.reserve.Goals as goal
 

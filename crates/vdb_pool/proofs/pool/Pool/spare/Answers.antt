@@ -1,6 +1,4 @@
-use Rattle.std.proofs.Common.{arith, ◌-◌}
-use Rattle.std.proofs.lemmas.List.{length-map}
-use Rattle.vdb_pool.specs.internal.Slot.{node_of}
+use Rattle.vdb_pool.proofs.Common.{arith, ◌-◌, length-map, node_of}
 use Rattle.vdb_pool.proofs.Links.{length-linked}
 use Rattle.vdb_pool.proofs.pool.Pool.spare.Goals as goal
 

@@ -1,11 +1,6 @@
-use Rattle.std.proofs.Common.{◌≡◌, ◌+◌, IsSome, sym, subst}
-use Rattle.std.proofs.lemmas.List.{map-set}
-use Rattle.vdb_pool.specs.Contents.{node_at, spare_of}
-use Rattle.vdb_pool.specs.internal.Slot.{node_of}
-use Rattle.vdb_pool.specs.declared.slot.Slot.TheVariants.{Vacant}
+use Rattle.vdb_pool.proofs.Common.{◌≡◌, ◌+◌, IsSome, sym, subst, map-set, node_at, spare_of, node_of, Vacant, KeepsOthersLive, KeepsOthers}
 use Rattle.vdb_pool.proofs.Links.{held_at}
 use Rattle.vdb_pool.proofs.Changes.{vacated}
-use Rattle.vdb_pool.specs.Live.{KeepsOthersLive, KeepsOthers}
 use Rattle.vdb_pool.proofs.Lives.{live_without, others_without, spare_without}
 use Rattle.vdb_pool.proofs.pool.Pool.take.Goals as goal
 

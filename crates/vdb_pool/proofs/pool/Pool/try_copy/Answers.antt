@@ -1,6 +1,5 @@
-use Rattle.std.proofs.Common.{◌≡◌, ℕ, ◌+◌, ◌<◌, inl, inr, List, ◌∷◌, [], ◌++◌, length, take, None, Some, sym, ap, ◌∙◌, arith}
+use Rattle.vdb_pool.proofs.Common.{◌≡◌, ℕ, ◌+◌, ◌<◌, inl, inr, List, ◌∷◌, [], ◌++◌, length, take, None, Some, sym, ap, ◌∙◌, arith, IsFalling}
 use Rattle.std.proofs.lemmas.List.{take_more, length-take-le}
-use Rattle.vdb_pool.specs.Contents.{IsFalling}
 use Rattle.vdb_pool.proofs.pool.Pool.try_copy.Goals.{in-Some, in-None}
 use Rattle.vdb_pool.proofs.pool.Pool.try_copy.Goals as goal
 

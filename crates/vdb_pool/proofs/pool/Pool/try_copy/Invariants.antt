@@ -1,5 +1,4 @@
-use Rattle.std.proofs.Common.{◌≡◌, ◌∷◌, ◌≤◌, length, take}
-use Rattle.vdb_pool.specs.Contents.{IsFalling}
+use Rattle.vdb_pool.proofs.Common.{◌≡◌, ◌∷◌, ◌≤◌, length, take, IsFalling}
 use Rattle.vdb_pool.proofs.pool.Pool.try_copy.Given as goal
 
 -- the slots so far, and capacity for all of them

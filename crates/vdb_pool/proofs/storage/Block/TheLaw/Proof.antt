@@ -1,15 +1,7 @@
 -- A `&` to a block says where it lies and how long it is. Assumes `Logic`.
-use denote.RattleType.{RattleType}
-use denote.RawPtr.{RawPtr}
-use denote.Param.Laws.{Laws}
-use denote.Param.Shared.{copy_shared}
-use denote.Sharing.{said}
-use denote.SharingLaws.{said_shr_laws}
-use denote.Struct.Laws.{field_copy}
-use denote.Struct.Lending.{of_Lends, Lends-first, Lends-said, in_block_pure}
-use Rattle.core.specs.declared.alloc.Allocator.{Ghosts}
+use Rattle.vdb_pool.proofs.Common.{RattleType, RawPtr, Laws, copy_shared, said, said_shr_laws, field_copy, of_Lends, Ghosts, block_says}
+use denote.Struct.Lending.{Lends-first, Lends-said, in_block_pure}
 use Rattle.core.specs.contracts.marker.PhantomData as marker
-use Rattle.vdb_pool.specs.internal.Ownership.{block_says}
 use Rattle.vdb_pool.specs.contracts.storage.Block as block
 use Rattle.vdb_pool.proofs.storage.Block.TheLaw.Statement.{statement}
 

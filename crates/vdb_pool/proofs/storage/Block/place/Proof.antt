@@ -1,35 +1,8 @@
 -- `place` moves an address up inside a block. Assumes `Logic`.
-use Rattle.std.proofs.Common.{◌≡◌, ℕ, ◌+◌, ◌*◌, ◌<◌, ◌^◌, List, [], ◌∷◌, ◌++◌, refl, sym, ap, ◌∙◌, arith, w64}
-use Rattle.std.specs.Mem.{type_size}
-use mir.Syntax.{Fn}
-use mir.MapTy.{inst_fn}
-use mir.Val.{Val, vptr, vint}
-use base.Logic.{SProp, emp, never, id⊢}
-use base.Fml.{ftrue}
-use prog.Wp.{Env, WpFn}
-use contract.Monad.{fact, fact_i}
-use contract.BorrowLft.{◌⊑◌}
-use contract.Running.{tables}
-use types.Kit.{‵, raw, ◌⊛◌, prop, at_ret, ◌$◌, ◌∵◌, !, qed, by, move, drop, use0, split, regoal, fsplit, fjoin, feq_l, flt_l}
-use types.Part.{whole, sub, agg}
-use types.Run.{stop, fld, of_opd, bin, size_lit, and_then, no_more, first, blocks, exec, returns, enter}
-use types.ByLocal.{alloc_all, pass_all, free_all, look_at, get, get_in, sets, sets_last, is, env}
-use denote.Exit.{yes, no}
-use denote.RattleType.{owns}
-use denote.RawPtr.{Ptr, block_ptr, ptr_val, in_block, in_a_block, ◌+ₚ◌}
-use denote.Opens.{unhide}
-use denote.Signature.{types_at}
-use denote.Steps.{nothing, heard}
-use denote.Triple.Clauses.{Clauses, Ended}
-use denote.Triple.Entry.{alive}
-use denote.Triple.Walked.{Stays, stay_dropped, walk_of, Goes-dropped}
-use Rattle.core.proofs.alloc.Calls.{Al}
-use Rattle.core.proofs.mem.Param.{El, R}
+use Rattle.vdb_pool.proofs.Common.{◌≡◌, ℕ, ◌+◌, ◌*◌, ◌<◌, ◌^◌, List, [], ◌∷◌, ◌++◌, refl, sym, ap, ◌∙◌, arith, w64, type_size, Fn, inst_fn, Val, vptr, vint, SProp, emp, never, id⊢, ftrue, Env, WpFn, fact, fact_i, ◌⊑◌, tables, ‵, raw, ◌⊛◌, prop, at_ret, ◌$◌, ◌∵◌, !, qed, by, move, drop, use0, split, regoal, fsplit, fjoin, feq_l, flt_l, whole, sub, agg, stop, fld, of_opd, bin, and_then, no_more, first, blocks, exec, returns, enter, alloc_all, pass_all, free_all, look_at, get, get_in, sets, sets_last, is, env, yes, no, owns, Ptr, block_ptr, ptr_val, in_block, in_a_block, ◌+ₚ◌, unhide, types_at, nothing, heard, Clauses, Ended, alive, Stays, stay_dropped, walk_of, Goes-dropped, Al, El, R, proved_at, leaves, after, word-Good}
+use types.Run.{size_lit}
 use Rattle.core.proofs.ptr.Rows.{times_below, one_below}
 use Rattle.core.proofs.slots.Leases.{args}
-use Rattle.std.proofs.raw_atomic.Walks.{proved_at, leaves}
-use Rattle.std_alloc.proofs.VecSteps.Shapes.{after}
-use Rattle.std_alloc.proofs.RcSteps.{word-Good}
 use Rattle.vdb_pool.proofs.Walks.{slot, Addr, addr_val, addr_told, addr_made}
 use Rattle.vdb_pool.specs.contracts.storage.Block.place as F
 use Rattle.vdb_pool.specs.contracts.storage.Block.place.Key.{name as #self}

@@ -1,13 +1,7 @@
 -- A `&` to a storage reaches each item. Assumes `Logic`.
+use Rattle.vdb_pool.proofs.Common.{Incl-trans, RattleType, RawPtr, Laws, copy_shared, field_copy, of_Lends}
 use mathlib.Core.List.{[], ◌++◌}
-use base.Fml.{Incl-trans}
 use contract.BorrowLft.{meet_⊑_left}
-use denote.RattleType.{RattleType}
-use denote.RawPtr.{RawPtr}
-use denote.Param.Laws.{Laws}
-use denote.Param.Shared.{copy_shared}
-use denote.Struct.Laws.{field_copy}
-use denote.Struct.Lending.{of_Lends}
 use Rattle.core.specs.contracts.marker.PhantomData as marker
 use Rattle.vdb_pool.specs.contracts.storage.Storage as storage
 use Rattle.vdb_pool.proofs.storage.Storage.TheLaw.Statement.{statement}

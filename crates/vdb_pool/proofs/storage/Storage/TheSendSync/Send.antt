@@ -1,5 +1,4 @@
-use denote.RattleType.{RattleType}
-use denote.Param.Send.{IsSend}
+use Rattle.vdb_pool.proofs.Common.{RattleType, IsSend}
 use Rattle.vdb_pool.proofs.Crossing.{Storage-send}
 use Rattle.vdb_pool.specs.contracts.storage.Storage.{the_row}
 

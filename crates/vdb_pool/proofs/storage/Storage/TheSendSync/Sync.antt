@@ -1,5 +1,4 @@
-use denote.RattleType.{RattleType}
-use denote.Param.Send.{IsSync}
+use Rattle.vdb_pool.proofs.Common.{RattleType, IsSync}
 use Rattle.vdb_pool.proofs.Crossing.{Storage-sync}
 use Rattle.vdb_pool.specs.contracts.storage.Storage.{the_row}
 

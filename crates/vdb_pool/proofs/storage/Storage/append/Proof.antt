@@ -1,27 +1,6 @@
 -- `append` joins two rows of places. Assumes `Logic`.
-use Rattle.std.proofs.Common.{◌≡◌, List, [], ◌∷◌, ◌++◌, refl}
-use mir.Syntax.{Fn}
-use mir.MapTy.{inst_fn}
-use mir.Val.{Val, vptr, vunit}
-use base.Logic.{SProp, emp}
-use base.Fml.{ftrue, flft}
-use prog.Wp.{Env, WpFn}
-use contract.Monad.{fact, fact_i}
-use contract.BorrowLft.{◌⊑◌}
-use contract.Running.{tables}
-use types.Kit.{Item, ‵, raw, ◌⊛◌, prop, ◌$◌, ◌∵◌, !, qed, by, move, keep, drop as skip, use0, use2, split, join, rewrite, regoal, fsplit, fsplit3, fjoin, fjoin3, feq_i}
-use types.Run.{of_opd, unit_lit, returns, enter}
-use types.ByLocal.{alloc_all, pass_all, free_all, look_at, sets, env}
-use denote.Exit.{no}
-use denote.RattleType.{owns}
-use denote.Signature.{plain, types_at}
-use denote.Steps.{nothing, heard, opens, closes}
-use denote.Triple.Clauses.{Clauses, Ended}
-use denote.Triple.Walked.{Stays, stay_dropped, stay_ref, walk_of, Goes-ref}
-use Rattle.core.proofs.alloc.Calls.{Goes-blank}
-use Rattle.core.proofs.mem.Param.{El, R, args}
-use Rattle.std.proofs.raw_atomic.Walks.{proved_at, leaves}
-use Rattle.vdb_pool.specs.internal.Ownership.{storage_owns}
+use Rattle.vdb_pool.proofs.Common.{◌≡◌, List, [], ◌∷◌, ◌++◌, refl, Fn, inst_fn, Val, vptr, vunit, SProp, emp, ftrue, flft, Env, WpFn, fact, fact_i, ◌⊑◌, tables, Item, ‵, raw, ◌⊛◌, prop, ◌$◌, ◌∵◌, !, qed, by, move, keep, use0, use2, split, join, rewrite, regoal, fsplit, fsplit3, fjoin, fjoin3, feq_i, of_opd, unit_lit, returns, enter, alloc_all, pass_all, free_all, look_at, sets, env, no, owns, plain, types_at, nothing, heard, opens, closes, Clauses, Ended, Stays, stay_dropped, stay_ref, walk_of, Goes-ref, Goes-blank, El, R, args, proved_at, leaves, storage_owns}
+use types.Kit.{drop as skip}
 use Rattle.vdb_pool.proofs.Places.{joined}
 use Rattle.vdb_pool.proofs.Walks.{slot, Store, mark_val, mark_told}
 use Rattle.vdb_pool.specs.contracts.storage.Storage.append as F

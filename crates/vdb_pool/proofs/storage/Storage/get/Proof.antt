@@ -1,34 +1,8 @@
 -- `get` shows one item that the storage borrows. Assumes `Logic`.
-use Rattle.std.proofs.Common.{◌≡◌, ◌<◌, List, [], ◌∷◌, ◌++◌, length, get_or, refl, sym, ap, w32}
-use mir.Syntax.{Fn}
-use mir.MapTy.{inst_fn}
-use mir.Val.{Val, vptr, vint}
-use base.Logic.{SProp, emp, never, id⊢}
-use base.Fml.{ftrue}
-use prog.Wp.{Env, WpFn}
-use contract.Monad.{fact, fact_i}
-use contract.BorrowLft.{◌⊑◌}
-use contract.Running.{tables}
-use types.Kit.{‵, raw, ◌⊛◌, prop, at_ret, ◌$◌, ◌∵◌, !, qed, by, move, drop, use0, use1, split, rewrite, regoal, fsplit, fjoin, feq_i}
-use types.Part.{whole, sub}
-use types.Run.{stop, fld, of_opd, addr, first, blocks, exec, returns, enter}
-use types.ByLocal.{alloc_all, pass_all, free_all, look_at, get, get_in, through, sets, sets_last, is, env}
-use denote.Exit.{yes, no}
-use denote.RattleType.{owns}
-use denote.RawPtr.{Ptr, ptr_val, null_ptr, in_block, in_a_block}
+use Rattle.vdb_pool.proofs.Common.{◌≡◌, ◌<◌, List, [], ◌∷◌, ◌++◌, length, get_or, refl, sym, ap, w32, Fn, inst_fn, Val, vptr, vint, SProp, emp, never, id⊢, ftrue, Env, WpFn, fact, fact_i, ◌⊑◌, tables, ‵, raw, ◌⊛◌, prop, at_ret, ◌$◌, ◌∵◌, !, qed, by, move, drop, use0, use1, split, rewrite, regoal, fsplit, fjoin, feq_i, whole, sub, stop, fld, of_opd, addr, first, blocks, exec, returns, enter, alloc_all, pass_all, free_all, look_at, get, get_in, through, sets, sets_last, is, env, yes, no, owns, Ptr, ptr_val, null_ptr, in_block, in_a_block, unhide, types_at, nothing, heard, lent_at, Clauses, Ended, alive, Stays, stay_dropped, walk_of, Goes-dropped, El, R, args, proved_at, leaves, after, word-Good}
 use denote.Memory.{shared_of}
-use denote.Opens.{hide, unhide}
+use denote.Opens.{hide}
 use denote.RawPtr.{block_of, count_of}
-use denote.Signature.{types_at}
-use denote.Steps.{nothing, heard}
-use denote.Struct.Lending.{lent_at}
-use denote.Triple.Clauses.{Clauses, Ended}
-use denote.Triple.Entry.{alive}
-use denote.Triple.Walked.{Stays, stay_dropped, walk_of, Goes-dropped}
-use Rattle.core.proofs.mem.Param.{El, R, args}
-use Rattle.std.proofs.raw_atomic.Walks.{proved_at, leaves}
-use Rattle.std_alloc.proofs.VecSteps.Shapes.{after}
-use Rattle.std_alloc.proofs.RcSteps.{word-Good}
 use Rattle.vdb_pool.proofs.Places.{some_item, same_item, item_lent}
 use Rattle.vdb_pool.proofs.Walks.{slot, addr_val, addr_told}
 use Rattle.vdb_pool.specs.contracts.storage.Storage.get as F

@@ -1,37 +1,11 @@
 -- `get_mut` lends one item, and the storage follows it. Assumes `Logic`.
-use Rattle.std.proofs.Common.{◌≡◌, ℕ, ◌<◌, List, [], ◌∷◌, ◌++◌, length, get_or, set, refl, sym, ap, ◌∙◌, w32}
-use seplogic.Ra.Ura.{Ura}
-use base.Fraction.{full_share}
-use mir.Syntax.{Fn, named}
-use mir.MapTy.{inst_fn}
-use mir.Val.{Val, vptr, vint}
-use base.Logic.{SProp, ent, sep, emp, never, id⊢}
-use base.Fml.{GName, Fml, ftrue, fsep, flft}
-use prog.Wp.{Env, WpFn}
-use types.Logic.{Logic, sem}
-use contract.Monad.{fact, fact_i}
-use contract.BorrowLft.{◌⊑◌}
-use contract.Running.{tables}
-use types.Kit.{Item, ‵, raw, ◌⊛◌, some, later, await, pick, prop, at_ret, ◌$◌, ◌∵◌, !, qed, by, move, drop, use0, use1, use2, split, join, group, rewrite, regoal, fsplit, fsplit3, fjoin, fjoin3, fpack, done}
-use types.Part.{whole, sub}
-use types.Run.{stop, fld, of_opd, addr, first, blocks, exec, returns, enter}
-use types.ByLocal.{alloc_all, pass_all, free_all, look_at, get, get_in, through, sets, sets_last, is, env}
-use denote.Exit.{yes, no}
+use Rattle.vdb_pool.proofs.Common.{◌≡◌, ℕ, ◌<◌, List, [], ◌∷◌, ◌++◌, length, get_or, set, refl, sym, ap, ◌∙◌, w32, Ura, full_share, Fn, inst_fn, Val, vptr, vint, SProp, ent, sep, emp, never, id⊢, Fml, ftrue, fsep, flft, Env, WpFn, Logic, sem, fact, fact_i, ◌⊑◌, tables, Item, ‵, raw, ◌⊛◌, some, later, await, pick, prop, at_ret, ◌$◌, ◌∵◌, !, qed, by, move, drop, use0, use1, use2, split, join, group, rewrite, regoal, fsplit, fsplit3, fjoin, fjoin3, fpack, done, whole, sub, stop, fld, of_opd, addr, first, blocks, exec, returns, enter, alloc_all, pass_all, free_all, look_at, get, get_in, through, sets, sets_last, is, env, yes, no, owns, Ptr, block_ptr, null_ptr, ptr_val, lies_at, in_a_block, types_at, nothing, heard, opens, Clauses, Ended, Stays, stay_dropped, walk_of, Goes-dropped, El, R, args, proved_at, leaves, after, word-Good, storage_owns, with_items}
+use mir.Syntax.{named}
+use base.Fml.{GName}
 use denote.Follow.{follows, lends_Part}
-use denote.RattleType.{owns}
-use denote.RawPtr.{Ptr, block_ptr, null_ptr, ptr_val, lies_at, in_a_block}
 use denote.Memory.{mem, cell_at, part_of}
 use denote.Ref.{MutBor, MutRef}
-use denote.Signature.{types_at}
-use denote.Steps.{nothing, heard, opens}
-use denote.Triple.Clauses.{Clauses, Ended}
-use denote.Triple.Walked.{Stays, stay_dropped, walk_of, Goes-dropped}
-use Rattle.core.proofs.mem.Param.{El, R, args, el_x}
-use Rattle.std.proofs.raw_atomic.Walks.{proved_at, leaves}
-use Rattle.std_alloc.proofs.VecSteps.Shapes.{after}
-use Rattle.std_alloc.proofs.RcSteps.{word-Good}
-use Rattle.vdb_pool.specs.internal.Ownership.{storage_owns}
-use Rattle.vdb_pool.specs.internal.Lends.{with_items}
+use Rattle.core.proofs.mem.Param.{el_x}
 use Rattle.vdb_pool.proofs.Places.{some_item, same_item, all_but, item_out, item_in}
 use Rattle.vdb_pool.proofs.Walks.{slot, Store, Mark, addr_val, addr_told}
 use Rattle.vdb_pool.specs.contracts.storage.Storage.get_mut as F

@@ -1,23 +1,6 @@
 -- `new` makes a storage that owns nothing. Assumes `Logic`.
-use Rattle.std.proofs.Common.{◌≡◌, [], ◌∷◌, refl}
-use mir.Syntax.{Fn}
-use mir.MapTy.{inst_fn}
-use mir.Val.{Val}
-use base.Logic.{SProp, emp}
-use base.Fml.{ftrue, flft}
-use prog.Wp.{Env}
-use contract.Monad.{fact, fact_i}
-use contract.BorrowLft.{◌⊑◌}
-use contract.Running.{tables}
-use types.Kit.{Item, ‵, raw, ◌⊛◌, ◌$◌, ◌∵◌, !, qed, by, move, keep, drop as skip, use0, split, fjoin}
-use types.Part.{agg}
-use types.Run.{and_then, no_more, returns, enter}
-use types.ByLocal.{alloc_all, pass_all, free_all, look_at, get, sets, env}
-use denote.Steps.{nothing}
-use denote.Triple.Clauses.{Clauses, Ended}
-use denote.Triple.Walked.{walk_of}
-use Rattle.core.proofs.mem.Param.{El, args}
-use Rattle.std.proofs.raw_atomic.Walks.{proved_at, leaves}
+use Rattle.vdb_pool.proofs.Common.{◌≡◌, [], ◌∷◌, refl, Fn, inst_fn, Val, SProp, emp, ftrue, flft, Env, fact, fact_i, ◌⊑◌, tables, Item, ‵, raw, ◌⊛◌, ◌$◌, ◌∵◌, !, qed, by, move, keep, use0, split, fjoin, agg, and_then, no_more, returns, enter, alloc_all, pass_all, free_all, look_at, get, sets, env, nothing, Clauses, Ended, walk_of, El, args, proved_at, leaves}
+use types.Kit.{drop as skip}
 use Rattle.vdb_pool.proofs.Walks.{Store, Mark, mark_val, mark_made}
 use Rattle.vdb_pool.specs.contracts.storage.Storage.new as F
 use Rattle.vdb_pool.specs.contracts.storage.Storage.new.Key.{name as #self}

@@ -1,37 +1,12 @@
 -- `pop` moves the last item out, and its place is free. Assumes `Logic`.
-use Rattle.std.proofs.Common.{◌≡◌, List, [], ◌∷◌, ◌++◌, length, get_or, refl, sym, ap, ◌∙◌}
-use base.Fraction.{full_share}
+use Rattle.vdb_pool.proofs.Common.{◌≡◌, List, [], ◌∷◌, ◌++◌, length, get_or, refl, sym, ap, ◌∙◌, full_share, Fn, inst_fn, Val, vptr, SProp, emp, never, id⊢, ftrue, froom, flft, Env, WpFn, fact, fact_i, ◌⊑◌, tables, Item, ‵, raw, ◌⊛◌, some, pick, prop, at_ret, ◌$◌, ◌∵◌, !, qed, by, move, keep, drop, use0, use1, use2, split, join, rewrite, regoal, fsplit, fsplit3, fjoin, fjoin3, feq_i, whole, sub, stop, fld, of_opd, first, blocks, exec, returns, enter, alloc_all, pass_all, free_all, look_at, get, get_in, through, sets, sets_last, is, env, no, owns, Ptr, block_ptr, null_ptr, ptr_val, lies_at, room_for, in_a_block, plain, types_at, Is, nothing, heard, opens, closes, Clauses, Ended, Stays, stay_dropped, stay_ref, walk_of, Goes-dropped, Goes-ref, El, R, args, elτ, lawful, proved_at, leaves, as_raw, after, word-Good, storage_owns, with_items}
 use mir.Raw.{raw as bare}
-use mir.Syntax.{Fn}
-use mir.MapTy.{inst_fn}
-use mir.Val.{Val, vptr}
-use base.Logic.{SProp, emp, never, id⊢}
-use base.Fml.{ftrue, fat, froom, flft}
-use prog.Wp.{Env, WpFn}
+use base.Fml.{fat}
 use borrow.Table.OneValue.{part_out}
-use contract.Monad.{fact, fact_i}
-use contract.BorrowLft.{◌⊑◌}
-use contract.Running.{tables}
-use types.Kit.{Item, ‵, raw, ◌⊛◌, some, pick, prop, at_ret, ◌$◌, ◌∵◌, !, qed, by, move, keep, drop, use0, use1, use2, split, join, rewrite, regoal, fsplit, fsplit3, fjoin, fjoin3, feq_i}
-use types.Part.{whole, sub}
-use types.Run.{stop, fld, of_opd, load, look, first, blocks, exec, returns, enter}
-use types.ByLocal.{alloc_all, pass_all, free_all, look_at, get, get_in, through, sets, sets_last, is, env}
-use denote.Exit.{no}
-use denote.RattleType.{owns}
-use denote.RawPtr.{Ptr, block_ptr, null_ptr, ptr_val, lies_at, room_for, in_a_block}
-use denote.Signature.{plain, types_at}
-use denote.Laws.{Is, shows}
-use denote.Steps.{nothing, heard, opens, closes, peeks}
-use denote.Triple.Clauses.{Clauses, Ended}
-use denote.Triple.Walked.{Stays, stay_dropped, stay_ref, walk_of, Goes-dropped, Goes-ref}
-use Rattle.core.proofs.mem.Param.{El, R, args, elτ, lawful}
-use Rattle.std.proofs.raw_atomic.Walks.{proved_at, leaves}
-use Rattle.std_alloc.proofs.RawLayout.{as_raw}
-use Rattle.std_alloc.proofs.VecSteps.Shapes.{after}
-use Rattle.std_alloc.proofs.RcSteps.{word-Good}
-use Rattle.vdb_pool.specs.internal.Ownership.{storage_owns}
+use types.Run.{load, look}
+use denote.Laws.{shows}
+use denote.Steps.{peeks}
 use Rattle.vdb_pool.specs.internal.Rows.{IsLastAt}
-use Rattle.vdb_pool.specs.internal.Lends.{with_items}
 use Rattle.vdb_pool.proofs.Places.{split_last, around, last_out, free_in}
 use Rattle.vdb_pool.proofs.Walks.{slot, Store, addr_val, addr_told}
 use Rattle.vdb_pool.specs.contracts.storage.Storage.pop as F

@@ -1,27 +1,7 @@
 -- `split_off` cuts a row of free places in two. Assumes `Logic`.
-use Rattle.std.proofs.Common.{◌≡◌, List, [], ◌∷◌, ◌++◌, take, drop, refl, w64}
-use mir.Syntax.{Fn}
-use mir.MapTy.{inst_fn}
-use mir.Val.{Val, vptr, vint}
-use base.Logic.{SProp, emp}
-use base.Fml.{ftrue, flft}
-use prog.Wp.{Env, WpFn}
-use contract.Monad.{fact, fact_i}
-use contract.BorrowLft.{◌⊑◌}
-use contract.Running.{tables}
-use types.Kit.{Item, ‵, raw, ◌⊛◌, prop, ◌$◌, ◌∵◌, !, qed, by, move, keep, drop as skip, use0, use1, split, join, rewrite, regoal, fsplit, fsplit3, fjoin, fjoin3, feq_i}
-use types.Part.{agg}
-use types.Run.{and_then, no_more, returns, enter}
-use types.ByLocal.{alloc_all, pass_all, free_all, look_at, get, sets, env}
-use denote.Exit.{yes}
-use denote.RattleType.{owns}
-use denote.Signature.{plain, types_at}
-use denote.Steps.{nothing, heard, opens, closes}
-use denote.Triple.Clauses.{Clauses, Ended}
-use denote.Triple.Walked.{Stays, stay_dropped, stay_ref, walk_of, Goes-dropped, Goes-ref}
-use Rattle.core.proofs.mem.Param.{El, R, args}
-use Rattle.std.proofs.raw_atomic.Walks.{proved_at, leaves}
-use Rattle.vdb_pool.specs.internal.Ownership.{storage_owns}
+use Rattle.vdb_pool.proofs.Common.{◌≡◌, List, [], ◌∷◌, ◌++◌, take, refl, w64, Fn, inst_fn, Val, vptr, vint, SProp, emp, ftrue, flft, Env, WpFn, fact, fact_i, ◌⊑◌, tables, Item, ‵, raw, ◌⊛◌, prop, ◌$◌, ◌∵◌, !, qed, by, move, keep, use0, use1, split, join, rewrite, regoal, fsplit, fsplit3, fjoin, fjoin3, feq_i, agg, and_then, no_more, returns, enter, alloc_all, pass_all, free_all, look_at, get, sets, env, yes, owns, plain, types_at, nothing, heard, opens, closes, Clauses, Ended, Stays, stay_dropped, stay_ref, walk_of, Goes-dropped, Goes-ref, El, R, args, proved_at, leaves, storage_owns}
+use Rattle.std.proofs.Common.{drop}
+use types.Kit.{drop as skip}
 use Rattle.vdb_pool.proofs.Places.{cut}
 use Rattle.vdb_pool.proofs.Walks.{slot, Store, Mark, mark_val, mark_made}
 use Rattle.vdb_pool.specs.contracts.storage.Storage.split_off as F

@@ -1,7 +1,6 @@
-use Rattle.std.proofs.Common.{◌≡◌, ◌∙◌, ap, sym, to_z, of_z, arith}
+use Rattle.vdb_scene.proofs.Common.{◌≡◌, ◌∙◌, ap, sym, to_z, of_z, arith, as_field_of, new}
 use Rattle.std.specs.Int.{w32, w64}
 use Rattle.std.proofs.lemmas.Int.{to_z-of_z}
-use Rattle.vdb_tree.specs.Field.{as_field_of, new}
 use Rattle.vdb_tree.proofs.AsFieldOf.{as_field_of_new}
 use Rattle.vdb_scene.specs.declared.scalar.Scalar.TheVariants as scalars
 use Rattle.vdb_scene.proofs.any_grid.AnyGrid.new.Goals as goal

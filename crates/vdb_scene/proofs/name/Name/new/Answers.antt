@@ -1,7 +1,5 @@
-use Rattle.std.proofs.Common.{◌≡◌, ◌∙◌, true, sym, ap, subst, ℕ, List, ◌++◌, length, take, drop, replicate}
-use Rattle.std.proofs.Math.Seq.{take-append_seam}
-use Rattle.std.proofs.lemmas.List.{drop-replicate}
-use Rattle.vdb_scene.specs.Names.{is_name, padded}
+use Rattle.vdb_scene.proofs.Common.{◌≡◌, ◌∙◌, true, sym, ap, subst, ℕ, List, ◌++◌, length, take, drop, replicate, take-append_seam, drop-replicate, is_name}
+use Rattle.vdb_scene.specs.Names.{padded}
 use Rattle.vdb_scene.proofs.name.Name.new.Goals as goal
 
 abbrev zeros : List ℕ

@@ -1,12 +1,7 @@
-use Rattle.std.proofs.Common.{◌∙◌, ap, refl, sym, Some}
-use Rattle.std.proofs.lemmas.Result.{err_from_is_err_and}
-use Rattle.vdb_tree.specs.Field.{clip}
+use Rattle.vdb_scene.proofs.Common.{◌∙◌, ap, refl, sym, Some, err_from_is_err_and, clip, of_tree, changed, grid_field, grid_root_limit, scene_of}
 use Rattle.vdb_scene.specs.Replies as replies
-use Rattle.vdb_scene.specs.Refusals.{of_tree}
-use Rattle.vdb_scene.specs.Step.{changed}
 use Rattle.vdb_scene.proofs.Borrowed.{changed_field, found, kept, missing, same_scene, unchanged}
 use Rattle.vdb_scene.proofs.Steps.{corners_first, refused}
-use Rattle.vdb_scene.specs.Grids.{grid_field, grid_root_limit, scene_of}
 use Rattle.vdb_scene.specs.declared.command.Command.TheVariants as commands
 use Rattle.vdb_scene.proofs.Trees.{refused_leaves, tree_refused_leaves}
 use Rattle.vdb_scene.proofs.scene.Scene.clip.Goals as goal

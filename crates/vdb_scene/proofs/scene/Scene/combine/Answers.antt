@@ -1,6 +1,4 @@
-use Rattle.std.proofs.Common.{refl}
-use Rattle.std.proofs.lemmas.Result.{err_from_is_err_and}
-use Rattle.vdb_scene.specs.Grids.{scene_of}
+use Rattle.vdb_scene.proofs.Common.{refl, err_from_is_err_and, scene_of}
 use Rattle.vdb_scene.proofs.TwoNames.{done_leaves, is_there, other_name, refused_trees, same_name, two_done, two_refused, twice_refused}
 use Rattle.vdb_scene.proofs.scene.Scene.combine.Goals as goal
 

@@ -1,9 +1,6 @@
-use Rattle.std.proofs.Common.{◌≡◌, ◌∙◌, ap, sym, refl, Option, Some, None}
-use Rattle.std.specs.Option.{option_map, option_copied}
+use Rattle.vdb_scene.proofs.Common.{◌≡◌, ◌∙◌, ap, sym, refl, Option, Some, None, option_map, grid_of, GridEntry, is_named}
+use Rattle.std.specs.Option.{option_copied}
 use Rattle.std.specs.Borrow.{Bor}
-use Rattle.vdb_scene.specs.Grids.{grid_of}
-use Rattle.vdb_scene.specs.declared.grid_entry.GridEntry.{GridEntry}
-use Rattle.vdb_scene.specs.Scene.{is_named}
 use Rattle.vdb_scene.proofs.Entries.{lookup-over}
 use Rattle.vdb_scene.proofs.scene.Scene.entry.Goals as goal
 

@@ -1,5 +1,4 @@
-use Rattle.std.proofs.Common.{refl, sym}
-use Rattle.std.proofs.lemmas.Result.{err_from_is_err_and}
+use Rattle.vdb_scene.proofs.Common.{refl, sym, err_from_is_err_and}
 use Rattle.vdb_scene.proofs.Borrowed.{same_scene}
 use Rattle.vdb_scene.proofs.Steps.{test_fails, test_passes}
 use Rattle.vdb_scene.proofs.Trees.{same_back, tree_refused_leaves}

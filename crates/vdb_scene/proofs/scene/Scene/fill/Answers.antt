@@ -1,8 +1,4 @@
-use Rattle.std.proofs.Common.{◌∙◌, sym, ap, refl}
-use Rattle.std.proofs.lemmas.Result.{err_from_is_err_and}
-use Rattle.std.specs.Prelude.{Some}
-use Rattle.vdb_tree.specs.Field.{fill}
-use Rattle.vdb_scene.specs.Grids.{grid_field, grid_root_limit}
+use Rattle.vdb_scene.proofs.Common.{◌∙◌, sym, ap, refl, err_from_is_err_and, Some, fill, grid_field, grid_root_limit}
 use Rattle.vdb_scene.proofs.Borrowed.{changed_field, kept, same_scene, unchanged}
 use Rattle.vdb_scene.proofs.Filling.{fill_corners_refused, fill_done, fill_missing, fill_refused, fill_value_refused}
 use Rattle.vdb_scene.proofs.Trees.{refused_leaves, tree_refused_leaves}

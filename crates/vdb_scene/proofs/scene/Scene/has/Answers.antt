@@ -1,7 +1,4 @@
-use Rattle.std.proofs.Common.{◌≡◌, ◌∙◌, ap, sym, refl, is_some, Option, Some, None}
-use Rattle.std.specs.Option.{option_map}
-use Rattle.vdb_scene.specs.Grids.{grid_of}
-use Rattle.vdb_scene.specs.Scene.{is_named}
+use Rattle.vdb_scene.proofs.Common.{◌≡◌, ◌∙◌, ap, sym, refl, is_some, Option, Some, None, option_map, grid_of, is_named}
 use Rattle.vdb_scene.proofs.Entries.{lookup-over}
 use Rattle.vdb_scene.proofs.scene.Scene.has.Goals as goal
 

@@ -1,5 +1,4 @@
-use Rattle.std.proofs.Common.{sym, refl}
-use Rattle.std.proofs.lemmas.Result.{err_from_is_err_and}
+use Rattle.vdb_scene.proofs.Common.{sym, refl, err_from_is_err_and}
 use Rattle.vdb_scene.proofs.Borrowed.{same_scene}
 use Rattle.vdb_scene.proofs.Lookups.{get_accessor_refused, get_done, get_missing, get_coord_refused}
 use Rattle.vdb_scene.proofs.Steps.{test_fails, test_passes}

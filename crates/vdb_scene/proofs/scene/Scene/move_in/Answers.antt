@@ -1,9 +1,5 @@
-use Rattle.std.proofs.Common.{◌≡◌, ◌∙◌, ap, rules, subst, sym}
-use Rattle.std.specs.Ordering.{nat_cmp}
-use Rattle.std.specs.Cmp.Lexicographic.{slice_cmp}
-use Rattle.vdb_scene.specs.Grids.{grid_of, grid_with, scene_over}
-use Rattle.vdb_scene.specs.Scene.{with_grid}
-use Rattle.vdb_scene.specs.declared.grid_entry.GridEntry.{GridEntry}
+use Rattle.vdb_scene.proofs.Common.{◌≡◌, ◌∙◌, ap, rules, subst, sym, nat_cmp, slice_cmp, grid_of, scene_over, with_grid, GridEntry}
+use Rattle.vdb_scene.specs.Grids.{grid_with}
 use Rattle.vdb_scene.proofs.Entries.{insert_entry-over, over}
 use Rattle.vdb_scene.proofs.scene.Scene.move_in.Goals as goal
 

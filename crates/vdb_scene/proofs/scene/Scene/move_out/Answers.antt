@@ -1,6 +1,4 @@
-use Rattle.std.proofs.Common.{◌∙◌, ap, sym}
-use Rattle.vdb_scene.specs.Grids.{grid_of}
-use Rattle.vdb_scene.specs.Scene.{is_named}
+use Rattle.vdb_scene.proofs.Common.{◌∙◌, ap, sym, grid_of, is_named}
 use Rattle.vdb_scene.proofs.Entries.{over, remove_entry-over}
 use Rattle.vdb_scene.proofs.scene.Scene.move_out.Goals as goal
 

@@ -1,5 +1,4 @@
-use Rattle.std.proofs.Common.{◌∙◌, sym}
-use Rattle.vdb_scene.specs.Grids.{grid_of}
+use Rattle.vdb_scene.proofs.Common.{◌∙◌, sym, grid_of}
 use Rattle.vdb_scene.proofs.Entries.{keys-over}
 use Rattle.vdb_scene.proofs.scene.Scene.names.Goals as goal
 

@@ -1,7 +1,4 @@
-use Rattle.std.proofs.Common.{◌∙◌, ap, sym}
-use Rattle.std.specs.Ordering.{nat_cmp}
-use Rattle.std.specs.Cmp.Lexicographic.{slice_cmp}
-use Rattle.vdb_scene.specs.Grids.{grid_of}
+use Rattle.vdb_scene.proofs.Common.{◌∙◌, ap, sym, nat_cmp, slice_cmp, grid_of}
 use Rattle.vdb_scene.proofs.Entries.{insert_entry-over, over}
 use Rattle.vdb_scene.proofs.scene.Scene.put.Goals as goal
 

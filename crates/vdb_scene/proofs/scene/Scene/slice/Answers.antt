@@ -1,10 +1,5 @@
-use Rattle.std.proofs.Common.{◌≡◌, ◌∙◌, ap, refl, subst, sym, Some, [], ◌∷◌}
-use Rattle.std.proofs.lemmas.Result.{err_from_is_err_and}
+use Rattle.vdb_scene.proofs.Common.{◌≡◌, ◌∙◌, ap, refl, subst, sym, Some, [], ◌∷◌, err_from_is_err_and, scene_of, are_coords, first_of_all, no_box, out_of_range, Corners}
 use Rattle.vdb_scene.proofs.Steps.{corners_first, refused}
-use Rattle.vdb_scene.specs.Grids.{scene_of}
-use Rattle.vdb_scene.specs.Arguments.{are_coords}
-use Rattle.vdb_scene.specs.Refusals.{first_of_all, no_box, out_of_range}
-use Rattle.vdb_scene.specs.declared.command.Corners.{Corners}
 use Rattle.vdb_scene.specs.declared.command.Command.TheVariants as commands
 use Rattle.vdb_scene.proofs.scene.Scene.slice.Goals as goal
 

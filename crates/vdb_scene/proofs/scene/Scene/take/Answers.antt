@@ -1,7 +1,4 @@
-use Rattle.std.proofs.Common.{◌≡◌, ◌∙◌, ap, refl, sym, false, true, rules, None, Some, Option}
-use Rattle.std.specs.Prelude.{is_none}
-use Rattle.vdb_scene.specs.Grids.{grid_of}
-use Rattle.vdb_scene.specs.Scene.{is_named}
+use Rattle.vdb_scene.proofs.Common.{◌≡◌, ◌∙◌, ap, refl, sym, false, true, rules, None, Some, Option, is_none, grid_of, is_named}
 use Rattle.vdb_scene.specs.Replies as replies
 use Rattle.vdb_scene.proofs.Entries.{over, remove_entry-over}
 use Rattle.vdb_scene.proofs.Borrowed.{absent_is, missing}

@@ -1,7 +1,5 @@
-use Rattle.std.proofs.Common.{refl}
-use Rattle.std.proofs.lemmas.Result.{err_from_is_err_and}
+use Rattle.vdb_scene.proofs.Common.{refl, err_from_is_err_and, scene_of}
 use Rattle.vdb_scene.proofs.PairSteps.{done_too, refused_too}
-use Rattle.vdb_scene.specs.Grids.{scene_of}
 use Rattle.vdb_scene.specs.declared.command.Command.TheVariants as commands
 use Rattle.vdb_scene.proofs.scene.Scene.take_meta.Goals as goal
 

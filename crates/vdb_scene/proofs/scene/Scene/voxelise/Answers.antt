@@ -1,13 +1,9 @@
-use Rattle.std.proofs.Common.{◌∙◌, ◌<◌, ◌≤◌, ap, refl, subst, sym, Some}
-use Rattle.std.proofs.lemmas.Bool.{le-ltb, lt-ltb}
-use Rattle.std.proofs.lemmas.Result.{err_from_is_err_and}
+use Rattle.vdb_scene.proofs.Common.{◌∙◌, ◌<◌, ◌≤◌, ap, refl, subst, sym, Some, le-ltb, lt-ltb, err_from_is_err_and, box_between, of_tree, scene_of}
 use Rattle.vdb_coord.specs.Space.{volume}
 use Rattle.vdb_scene.specs.Replies as replies
-use Rattle.vdb_scene.specs.Arguments.{box_between}
-use Rattle.vdb_scene.specs.Refusals.{of_tree}
 use Rattle.vdb_scene.proofs.Borrowed.{found, missing, same_scene, unchanged}
 use Rattle.vdb_scene.proofs.Steps.{corners_first, refused}
-use Rattle.vdb_scene.specs.Grids.{IsVoxelised, scene_of}
+use Rattle.vdb_scene.specs.Grids.{IsVoxelised}
 use Rattle.vdb_scene.specs.declared.command.Command.TheVariants as commands
 use Rattle.vdb_scene.proofs.Trees.{refused_leaves, same_back, tree_refused_leaves}
 use Rattle.vdb_scene.proofs.scene.Scene.voxelise.Goals as goal

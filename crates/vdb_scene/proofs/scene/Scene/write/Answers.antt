@@ -1,13 +1,8 @@
-use Rattle.std.proofs.Common.{◌∙◌, sym, ap, refl}
-use Rattle.std.proofs.lemmas.Result.{err_from_is_err_and}
-use Rattle.std.specs.Prelude.{Some}
-use Rattle.vdb_tree.specs.Field.{write}
-use Rattle.vdb_scene.specs.Grids.{grid_field, grid_root_limit}
+use Rattle.vdb_scene.proofs.Common.{◌∙◌, sym, ap, refl, err_from_is_err_and, Some, write, grid_field, grid_root_limit, write_command}
 use Rattle.vdb_scene.proofs.Borrowed.{changed_field, kept, same_scene, unchanged}
 use Rattle.vdb_scene.proofs.Steps.{test_fails, test_passes}
 use Rattle.vdb_scene.proofs.Writing.{write_accessor_refused, write_done, write_missing, write_coord_refused, write_refused, write_value_refused}
 use Rattle.vdb_scene.proofs.Trees.{accessed, others_keep, same_back, tree_refused_leaves, value_refused, write_changes, write_leaves, write_moves}
-use Rattle.vdb_scene.specs.Step.{write_command}
 use Rattle.vdb_scene.proofs.scene.Scene.write.Goals as goal
 
 pub returns-in_default-clause-step : goal.returns-in_default-clause-step

@@ -1,5 +1,4 @@
-use Rattle.std.proofs.Common.{◌≡◌, ◌∙◌, sym, rules}
-use Rattle.vdb_coord.specs.Space.{extent}
+use Rattle.vdb_scene.proofs.Common.{◌≡◌, ◌∙◌, sym, rules, extent}
 use Rattle.vdb_scene.proofs.Rows.{rows_many}
 use Rattle.vdb_scene.proofs.slice.Slice.len.Goals as goal
 

@@ -1,7 +1,5 @@
-use Rattle.std.proofs.Common.{◌≡◌, ◌∙◌, ap, refl, rules, map, ◌∷◌}
-use Rattle.vdb_value.specs.declared.Cell.{Cell}
-use Rattle.vdb_scene.specs.Slices.{row_cell, numbers_left}
-use Rattle.vdb_scene.specs.declared.scalar.Scalar.{Scalar}
+use Rattle.vdb_scene.proofs.Common.{◌≡◌, ◌∙◌, ap, refl, rules, map, ◌∷◌, Cell, numbers_left, Scalar}
+use Rattle.vdb_scene.specs.Slices.{row_cell}
 use Rattle.vdb_scene.proofs.slice.SliceRow.next.Goals as goal
 
 pub returns-in-Some : goal.returns-in-Some

@@ -1,9 +1,4 @@
-use Rattle.std.proofs.Common.{ap, ◌∙◌}
-use Rattle.vdb_coord.specs.Blocks.{vdb}
-use Rattle.vdb_coord.specs.declared.Coord.{Coord}
-use Rattle.vdb_walk.specs.Reports.{active}
-use Rattle.vdb_scene.specs.Grids.{grid_field}
-use Rattle.vdb_scene.specs.Listings.{box_across}
+use Rattle.vdb_scene.proofs.Common.{ap, ◌∙◌, vdb, Coord, active, grid_field, box_across}
 use Rattle.vdb_scene.proofs.Listings.{across_box, both}
 use Rattle.vdb_scene.proofs.voxels.Voxels.new.Goals as goal
 

@@ -1,5 +1,4 @@
-use Rattle.std.proofs.Common.{length, drop, ap, ◌∙◌, arith}
-use Rattle.vdb_script.specs.Reading.{Stock}
+use Rattle.vdb_script.proofs.Common.{length, drop, ap, ◌∙◌, arith, Stock}
 use Rattle.vdb_script.proofs.Pieces.{behind_first}
 use Rattle.vdb_script.proofs.source.Source.skip.Goals as goal
 

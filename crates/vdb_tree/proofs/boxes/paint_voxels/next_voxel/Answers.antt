@@ -1,7 +1,4 @@
-use Rattle.std.proofs.Common.{SFits, refl, rules, w32}
-use Rattle.std.proofs.lemmas.Int.{to_z-of_z}
-use Rattle.vdb_coord.specs.Space.{coord}
-use Rattle.vdb_coord.proofs.Walk.{few_after, nearer_x, nearer_y, nearer_z}
+use Rattle.vdb_tree.proofs.Common.{SFits, refl, rules, w32, to_z-of_z, coord, few_after, nearer_x, nearer_y, nearer_z}
 use Rattle.vdb_tree.proofs.PaintedVoxels.{bumped, covered, greatest, behind, next_along_x, next_along_y, next_along_z, none_along}
 use Rattle.vdb_tree.proofs.boxes.paint_voxels.next_voxel.Goals as goal
 

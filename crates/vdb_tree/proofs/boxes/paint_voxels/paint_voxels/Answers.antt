@@ -1,9 +1,4 @@
-use Rattle.std.proofs.Common.{◌≡◌, ◌∙◌, ◌<◌, ◌≤◌, ◌+◌, ℕ, SFits, ap, arith, rules, w32}
-use Rattle.vdb_coord.specs.Blocks.{entries}
-use Rattle.vdb_coord.specs.declared.Level.TheVariants.{Leaf}
-use Rattle.vdb_coord.proofs.Boxes.{both}
-use Rattle.vdb_coord.proofs.Positions.{entries_is}
-use Rattle.vdb_node.specs.Nodes.{entry_count}
+use Rattle.vdb_tree.proofs.Common.{◌≡◌, ◌∙◌, ◌<◌, ◌≤◌, ◌+◌, ℕ, SFits, ap, arith, rules, w32, entries, Leaf, both, entries_is, entry_count}
 use Rattle.vdb_tree.proofs.PaintedVoxels.{voxels_all, voxels_next, voxels_none}
 use Rattle.vdb_tree.proofs.Sizes.{leaf_small}
 use Rattle.vdb_tree.proofs.VoxelRuns.{not_further, run_from}

@@ -1,11 +1,4 @@
-use Rattle.std.proofs.Common.{◌≡◌, ◌∙◌, ℤ, SFits, ap, of_z, rules, sym, to_z, w32}
-use Rattle.std.specs.Int.{int_min}
-use Rattle.std.proofs.lemmas.Int.{to_z-of_z}
-use Rattle.vdb_coord.specs.Blocks.{block, block_around, block_number}
-use Rattle.vdb_coord.specs.Space.{Box}
-use Rattle.vdb_coord.specs.declared.Bits.{Bits}
-use Rattle.vdb_coord.specs.declared.Coord.{Coord}
-use Rattle.vdb_coord.specs.declared.Level.TheVariants.{Leaf}
+use Rattle.vdb_tree.proofs.Common.{◌≡◌, ◌∙◌, ℤ, SFits, ap, of_z, rules, sym, to_z, w32, int_min, to_z-of_z, block, block_around, block_number, Box, Bits, Coord, Leaf}
 use Rattle.vdb_tree.proofs.VoxelRuns.{plane_to, row_to, whole_to}
 use Rattle.vdb_tree.proofs.boxes.paint_voxels.run_end.Goals as goal
 

@@ -1,6 +1,4 @@
-use Rattle.std.proofs.Common.{◌≡◌, ◌∙◌, ap, arith, true}
-use Rattle.std.specs.Prelude.{is_some}
-use Rattle.std.proofs.lemmas.Map.Keys.{IsDistinct-from_sorted}
+use Rattle.vdb_tree.proofs.Common.{◌≡◌, ◌∙◌, ap, arith, true, is_some, IsDistinct-from_sorted}
 use Rattle.vdb_tree.proofs.root.RootTable.set.Goals as goal
 
 pub returns-clause-updates : goal.returns-clause-updates

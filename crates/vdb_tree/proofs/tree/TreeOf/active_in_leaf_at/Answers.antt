@@ -1,6 +1,4 @@
-use Rattle.std.proofs.Common.{ap, sym, ◌∙◌}
-use Rattle.vdb_tree.specs.Layout.{bits_of, field_of}
-use Rattle.vdb_tree.specs.ConstantBlocks.{count}
+use Rattle.vdb_tree.proofs.Common.{ap, sym, ◌∙◌, bits_of, field_of, count}
 use Rattle.vdb_tree.proofs.ActiveCounts.{leaf_part}
 use Rattle.vdb_tree.proofs.tree.TreeOf.active_in_leaf_at.Goals as goal
 

@@ -1,6 +1,4 @@
-use Rattle.std.proofs.Common.{ap, sym, ◌∙◌}
-use Rattle.vdb_tree.specs.Layout.{bits_of, field_of}
-use Rattle.vdb_tree.specs.ConstantBlocks.{count}
+use Rattle.vdb_tree.proofs.Common.{ap, sym, ◌∙◌, bits_of, field_of, count}
 use Rattle.vdb_tree.proofs.ActiveCounts.{lower_part}
 use Rattle.vdb_tree.proofs.tree.TreeOf.active_in_lower_at.Goals as goal
 

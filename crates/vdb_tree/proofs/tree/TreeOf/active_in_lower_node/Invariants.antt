@@ -1,7 +1,4 @@
-use Rattle.std.proofs.Common.{◌≡◌, ◌≤◌, ◌-◌}
-use Rattle.vdb_coord.specs.Blocks.{entries}
-use Rattle.vdb_coord.specs.declared.Level.TheVariants.{Lower}
-use Rattle.vdb_tree.specs.Layout.{bits_of, field_of}
+use Rattle.vdb_tree.proofs.Common.{◌≡◌, ◌≤◌, ◌-◌, entries, Lower, bits_of, field_of}
 use Rattle.vdb_tree.proofs.ActiveCounts.{active_below}
 use Rattle.vdb_tree.proofs.tree.TreeOf.active_in_lower_node.Given as goal
 

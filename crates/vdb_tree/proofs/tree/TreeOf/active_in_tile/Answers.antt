@@ -1,7 +1,4 @@
-use Rattle.std.proofs.Common.{ap, rules, ◌∙◌}
-use Rattle.vdb_coord.specs.Space.{volume}
-use Rattle.vdb_coord.proofs.Meeting.{fits_everywhere}
-use Rattle.vdb_tree.specs.Layout.{bits_of}
+use Rattle.vdb_tree.proofs.Common.{ap, rules, ◌∙◌, volume, fits_everywhere, bits_of}
 use Rattle.vdb_tree.proofs.ActiveCounts.{tile_all, tile_none}
 use Rattle.vdb_tree.proofs.Needed.{tile_block}
 use Rattle.vdb_tree.proofs.tree.TreeOf.active_in_tile.Goals as goal

@@ -1,7 +1,4 @@
-use Rattle.std.proofs.Common.{arith, rules, ◌+◌}
-use Rattle.vdb_coord.specs.declared.Level.TheVariants.{Upper}
-use Rattle.vdb_coord.proofs.Meeting.{fits_everywhere}
-use Rattle.vdb_tree.specs.Layout.{bits_of, field_of}
+use Rattle.vdb_tree.proofs.Common.{arith, rules, ◌+◌, Upper, fits_everywhere, bits_of, field_of}
 use Rattle.vdb_tree.proofs.ActiveCounts.{below_all, below_few, below_next, below_none}
 use Rattle.vdb_tree.proofs.Constants.{entries_few}
 use Rattle.vdb_tree.proofs.UnlikeEntries.{index_after, index_fits, least, nearer}

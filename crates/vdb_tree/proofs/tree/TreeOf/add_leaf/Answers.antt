@@ -1,5 +1,4 @@
-use Rattle.std.proofs.Common.{refl, sym, ap, ◌∙◌}
-use Rattle.vdb_node.specs.declared.Entry.TheVariants.{Child}
+use Rattle.vdb_tree.proofs.Common.{refl, sym, ap, ◌∙◌, Child}
 use Rattle.vdb_tree.proofs.Pools.{node_puts}
 use Rattle.vdb_tree.proofs.Splits.{capacity_keeps, capacity_sound, with_leaf_field, with_leaf_sound}
 use Rattle.vdb_tree.proofs.SweptTables.{kept_swept, not_known}

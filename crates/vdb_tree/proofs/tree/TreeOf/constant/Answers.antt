@@ -1,6 +1,4 @@
-use Rattle.std.proofs.Common.{rules}
-use Rattle.vdb_coord.proofs.Meeting.{fits_everywhere}
-use Rattle.vdb_tree.specs.Layout.{bits_of}
+use Rattle.vdb_tree.proofs.Common.{rules, fits_everywhere, bits_of}
 use Rattle.vdb_tree.proofs.Uniform.{exact_by}
 use Rattle.vdb_tree.proofs.UnlikeEntries.{one_constant, one_non_constant, one_none, one_some}
 use Rattle.vdb_tree.proofs.tree.TreeOf.constant.Goals as goal

@@ -1,5 +1,4 @@
-use Rattle.std.proofs.Common.{◌∙◌, ap, sym}
-use Rattle.vdb_node.specs.declared.Entry.TheVariants.{Child}
+use Rattle.vdb_tree.proofs.Common.{◌∙◌, ap, sym, Child}
 use Rattle.vdb_tree.proofs.LeafWrites.{leaf_field, leaf_sound}
 use Rattle.vdb_tree.proofs.SweptTables.{not_known}
 use Rattle.vdb_tree.proofs.tree.TreeOf.copy_leaf.Goals as goal

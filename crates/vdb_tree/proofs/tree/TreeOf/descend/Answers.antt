@@ -1,6 +1,4 @@
-use Rattle.std.proofs.Common.{◌∙◌, rules, sym}
-use Rattle.vdb_coord.proofs.Meeting.{fits_everywhere}
-use Rattle.vdb_tree.specs.Layout.{bits_of, cell_at}
+use Rattle.vdb_tree.proofs.Common.{◌∙◌, rules, sym, fits_everywhere, bits_of, cell_at}
 use Rattle.vdb_tree.proofs.Fields.{cell_inside}
 use Rattle.vdb_tree.proofs.tree.TreeOf.descend.Goals as goal
 

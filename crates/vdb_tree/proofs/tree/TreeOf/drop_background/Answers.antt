@@ -1,6 +1,4 @@
-use Rattle.std.proofs.Common.{◌≡◌, refl, sym, ◌∙◌}
-use Rattle.std.specs.Prelude.{None, Option, Some}
-use Rattle.vdb_tree.specs.Layout.{bits_of}
+use Rattle.vdb_tree.proofs.Common.{◌≡◌, refl, sym, ◌∙◌, None, Option, Some, bits_of}
 use Rattle.vdb_tree.proofs.RootSweeps.{equal_tile, other_key, that_key, non_background_keeps, non_background_same, non_background_sound}
 use Rattle.vdb_tree.proofs.SweptTables.{kept_swept, not_known, updated_held}
 use Rattle.vdb_tree.proofs.Uniform.{exact_by}

@@ -1,5 +1,4 @@
-use Rattle.std.proofs.Common.{sym, ap, ◌∙◌}
-use Rattle.vdb_node.specs.declared.Entry.TheVariants.{Child}
+use Rattle.vdb_tree.proofs.Common.{sym, ap, ◌∙◌, Child}
 use Rattle.vdb_tree.proofs.Pools.{node_puts, take_puts}
 use Rattle.vdb_tree.proofs.Tiled.{leaf_fills, leaf_entries, leaf_sound}
 use Rattle.vdb_tree.proofs.SweptTables.{not_known}

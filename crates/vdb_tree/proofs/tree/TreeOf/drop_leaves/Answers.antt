@@ -1,6 +1,4 @@
-use Rattle.std.proofs.Common.{◌∙◌}
-use Rattle.vdb_coord.specs.declared.Level.TheVariants.{Lower}
-use Rattle.vdb_tree.specs.Layout.{bits_of, lower_entry}
+use Rattle.vdb_tree.proofs.Common.{◌∙◌, Lower, bits_of, lower_entry}
 use Rattle.vdb_tree.proofs.Clears.{beyond_twice, clears_all}
 use Rattle.vdb_tree.proofs.Passes.{upper_entry_same, uppers_trans}
 use Rattle.vdb_tree.proofs.tree.TreeOf.drop_leaves.Goals as goal

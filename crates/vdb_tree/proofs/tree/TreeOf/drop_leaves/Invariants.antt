@@ -1,10 +1,4 @@
-use Rattle.std.proofs.Common.{◌≡◌, ◌≤◌, ◌-◌}
-use Rattle.vdb_coord.specs.declared.Level.TheVariants.{Lower}
-use Rattle.vdb_node.specs.Nodes.{entry_count}
-use Rattle.vdb_node.specs.declared.Entry.TheVariants.{Child}
-use Rattle.vdb_tree.specs.Changes.{KeepsBeyond, KeepsUppers}
-use Rattle.vdb_tree.specs.internal.Children.{IsChildless}
-use Rattle.vdb_tree.specs.Layout.{bits_of, lower_entry, upper_entry}
+use Rattle.vdb_tree.proofs.Common.{◌≡◌, ◌≤◌, ◌-◌, Lower, entry_count, Child, KeepsBeyond, KeepsUppers, IsChildless, bits_of, lower_entry, upper_entry}
 use Rattle.vdb_tree.proofs.tree.TreeOf.drop_leaves.Given as goal
 
 abbrev pub invariant-loop-next : goal.invariant-loop-next

@@ -1,6 +1,4 @@
-use Rattle.std.proofs.Common.{◌∙◌}
-use Rattle.vdb_coord.specs.declared.Level.TheVariants.{Upper}
-use Rattle.vdb_tree.specs.Layout.{bits_of, upper_entry}
+use Rattle.vdb_tree.proofs.Common.{◌∙◌, Upper, bits_of, upper_entry}
 use Rattle.vdb_tree.proofs.Clears.{beyond_twice, clears_all}
 use Rattle.vdb_tree.proofs.Passes.{root_entry_same}
 use Rattle.vdb_tree.proofs.tree.TreeOf.drop_lowers.Goals as goal

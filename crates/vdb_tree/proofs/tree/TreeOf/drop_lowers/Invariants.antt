@@ -1,10 +1,4 @@
-use Rattle.std.proofs.Common.{◌≡◌, ◌≤◌, ◌-◌}
-use Rattle.vdb_coord.specs.declared.Level.TheVariants.{Upper}
-use Rattle.vdb_node.specs.Nodes.{entry_count}
-use Rattle.vdb_node.specs.declared.Entry.TheVariants.{Child}
-use Rattle.vdb_tree.specs.Changes.{KeepsBeyond}
-use Rattle.vdb_tree.specs.internal.Children.{IsChildless}
-use Rattle.vdb_tree.specs.Layout.{bits_of, upper_entry, root_entry}
+use Rattle.vdb_tree.proofs.Common.{◌≡◌, ◌≤◌, ◌-◌, Upper, entry_count, Child, KeepsBeyond, IsChildless, bits_of, upper_entry, root_entry}
 use Rattle.vdb_tree.proofs.tree.TreeOf.drop_lowers.Given as goal
 
 abbrev pub invariant-loop-next : goal.invariant-loop-next

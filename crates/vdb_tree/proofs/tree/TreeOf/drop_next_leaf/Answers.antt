@@ -1,7 +1,4 @@
-use Rattle.vdb_coord.specs.declared.Level.TheVariants.{Leaf, Lower}
-use Rattle.vdb_coord.proofs.Nesting.{lower_from_leaf}
-use Rattle.vdb_coord.proofs.Positions.{entries_is}
-use Rattle.vdb_tree.specs.Layout.{bits_of, lower_entry}
+use Rattle.vdb_tree.proofs.Common.{Leaf, Lower, lower_from_leaf, entries_is, bits_of, lower_entry}
 use Rattle.vdb_tree.proofs.Clears.{after, beyond_wider, clears_end, clears_step, filled_beyond}
 use Rattle.vdb_tree.proofs.Passes.{corner_block, leaf_descent}
 use Rattle.vdb_tree.proofs.tree.TreeOf.drop_next_leaf.Goals as goal

@@ -1,8 +1,4 @@
-use Rattle.std.proofs.Common.{◌∙◌}
-use Rattle.vdb_coord.specs.declared.Level.TheVariants.{Lower, Upper}
-use Rattle.vdb_coord.proofs.Nesting.{upper_from_lower}
-use Rattle.vdb_coord.proofs.Positions.{entries_is}
-use Rattle.vdb_tree.specs.Layout.{bits_of, upper_entry}
+use Rattle.vdb_tree.proofs.Common.{◌∙◌, Lower, Upper, upper_from_lower, entries_is, bits_of, upper_entry}
 use Rattle.vdb_tree.proofs.Clears.{after, beyond_twice, beyond_wider, clears_end, clears_step, filled_beyond}
 use Rattle.vdb_tree.proofs.Passes.{corner_block, descent_by, root_entry_same, upper_entry_same}
 use Rattle.vdb_tree.proofs.tree.TreeOf.drop_next_lower.Goals as goal

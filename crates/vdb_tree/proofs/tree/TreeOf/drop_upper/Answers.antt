@@ -1,5 +1,4 @@
-use Rattle.std.proofs.Common.{◌≡◌, ◌≤◌, ℕ, arith, sym, ap, ◌∙◌}
-use Rattle.vdb_node.specs.declared.Entry.TheVariants.{Child}
+use Rattle.vdb_tree.proofs.Common.{◌≡◌, ◌≤◌, ℕ, arith, sym, ap, ◌∙◌, Child}
 use Rattle.vdb_tree.proofs.Pools.{take_puts}
 use Rattle.vdb_tree.proofs.Tiled.{root_present, upper_fills, upper_lowers, upper_sound, upper_uppers}
 use Rattle.vdb_tree.proofs.SweptTables.{not_known}

@@ -1,7 +1,4 @@
-use Rattle.std.proofs.Common.{◌≡◌, arith, Err}
-use Rattle.std.proofs.lemmas.Grind.{common_steps}
-use Rattle.vdb_tree.specs.Layout.{bits_of}
-use Rattle.vdb_tree.specs.declared.refusal.TreeRefusal.TheVariants.{RootLimit}
+use Rattle.vdb_tree.proofs.Common.{◌≡◌, arith, Err, common_steps, bits_of, RootLimit}
 use Rattle.vdb_tree.proofs.Capacities.{obeys_full, obeys_within}
 use Rattle.vdb_tree.proofs.MadeNodes.{no_node_twice}
 use Rattle.vdb_tree.proofs.Splits.{keeps_twice}

@@ -1,8 +1,4 @@
-use Rattle.std.proofs.Common.{subst}
-use Rattle.std.specs.Prelude.{IsSome}
-use Rattle.vdb_coord.specs.declared.Coord.{Coord}
-use Rattle.vdb_tree.specs.internal.ActiveCapacity.{IsActiveKey}
-use Rattle.vdb_tree.specs.Layout.{bits_of, root_at}
+use Rattle.vdb_tree.proofs.Common.{subst, IsSome, Coord, IsActiveKey, bits_of, root_at}
 use Rattle.vdb_tree.proofs.ActiveCapacities.{enters_all, enters_next, enters_none}
 use Rattle.vdb_tree.proofs.KeysPast.{fewer_past}
 use Rattle.vdb_tree.proofs.MadeNodes.{no_node_twice}

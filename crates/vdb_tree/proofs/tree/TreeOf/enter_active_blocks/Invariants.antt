@@ -1,5 +1,4 @@
-use Rattle.vdb_tree.specs.internal.ActiveCapacity.{HasCapacityForActive}
-use Rattle.vdb_tree.specs.Layout.{bits_of}
+use Rattle.vdb_tree.proofs.Common.{HasCapacityForActive, bits_of}
 use Rattle.vdb_tree.proofs.ActiveCapacities.{EntersActive}
 use Rattle.vdb_tree.proofs.KeysPast.{keys_past}
 use Rattle.vdb_tree.proofs.tree.TreeOf.enter_active_blocks.Given as goal

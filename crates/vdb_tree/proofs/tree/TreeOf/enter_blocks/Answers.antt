@@ -1,5 +1,4 @@
-use Rattle.vdb_coord.proofs.Boxes.{both}
-use Rattle.vdb_tree.specs.Layout.{bits_of}
+use Rattle.vdb_tree.proofs.Common.{both, bits_of}
 use Rattle.vdb_tree.proofs.MadeNodes.{keys_in_twice}
 use Rattle.vdb_tree.proofs.Passes.{descent_trans}
 use Rattle.vdb_tree.proofs.CapacityWalks.{EntersTo, enters_all, enters_next, enters_none}

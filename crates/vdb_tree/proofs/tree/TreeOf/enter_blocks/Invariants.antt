@@ -1,6 +1,4 @@
-use Rattle.vdb_coord.specs.Walk.{coordinates_after}
-use Rattle.vdb_tree.specs.Layout.{bits_of}
-use Rattle.vdb_tree.specs.Capacity.{HasCapacityFor}
+use Rattle.vdb_tree.proofs.Common.{coordinates_after, bits_of, HasCapacityFor}
 use Rattle.vdb_tree.proofs.CapacityWalks.{EntersTo}
 use Rattle.vdb_tree.proofs.tree.TreeOf.enter_blocks.Given as goal
 

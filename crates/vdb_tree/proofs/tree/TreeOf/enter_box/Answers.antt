@@ -1,41 +1,26 @@
-use Rattle.std.proofs.Common.{◌≡◌, ◌≢◌, ◌≤◌, arith, inl, inr, refl, subst, sym, ◌∙◌, Err}
-use Rattle.std.specs.Prelude.{IsSome}
-use Rattle.std.proofs.lemmas.Grind.{common_steps}
-use Rattle.vdb_coord.specs.Blocks.{key}
-use Rattle.vdb_tree.specs.Field.{fill}
-use Rattle.vdb_tree.specs.Layout.{Layout, bits_of, field_of, background_cell, root_at}
-use Rattle.vdb_tree.specs.ConstantBlocks.{roots}
-use Rattle.vdb_tree.specs.declared.refusal.TreeRefusal.TheVariants.{RootLimit}
-use Rattle.vdb_value.specs.declared.Cell.{Cell}
+use Rattle.vdb_tree.proofs.Common.{◌≡◌, ◌≢◌, ◌≤◌, arith, inl, inr, refl, subst, sym, Err, IsSome, common_steps, key, fill, Layout, bits_of, field_of, background_cell, root_at, roots, RootLimit, Cell, AddsNodes}
 use Rattle.vdb_tree.proofs.Blocks.{never}
 use Rattle.vdb_tree.proofs.Erasing.{adds_background_none, adds_background_twice, split_background}
-use Rattle.vdb_tree.specs.Changes.{AddsNodes}
 use Rattle.vdb_tree.proofs.MadeNodes.{keys_in_none, keys_in_twice, no_node_twice, same_no_node}
 use Rattle.vdb_tree.proofs.Capacities.{obeys_full, obeys_within, or_entered}
 use Rattle.vdb_tree.proofs.Splits.{adds_itself, keeps_twice}
-use Rattle.vdb_tree.proofs.Uniform.{cell_exact, cell_same, exact_by}
 use Rattle.vdb_tree.proofs.tree.TreeOf.enter_box.Goals as goal
 
-pub returns-then-eq-clause-keeps : goal.returns-then-eq-clause-keeps
-returns-then-eq-clause-keeps g c = record { head = record { background = refl; limit = refl }; cells = λ q. refl }
+pub returns-then-is_background-clause-keeps : goal.returns-then-is_background-clause-keeps
+returns-then-is_background-clause-keeps g c = record { head = record { background = refl; limit = refl }; cells = λ q. refl }
 
-pub returns-then-eq-clause-entered : goal.returns-then-eq-clause-entered
-returns-then-eq-clause-entered g c =
-    let exact = exact_by g.V.PartialEq.eq g.V.Ord.cmp g.met.V.Ord.matches_eq g.met.V.Voxel.exact in
-    let is : c.args.cell ≡ background_cell c.args.self.now =
-    subst (λ (s : Layout g.row.V.Denot). c.args.cell ≡ background_cell s) c.self.view_is (cell_exact g.V.PartialEq.eq exact g.met.V.Eq.laws.refl c.args.cell _ (sym c.eq.ensures ∙ c.if-eq.true)) in
-    λ p inside. inl is
+pub returns-then-is_background-clause-entered : goal.returns-then-is_background-clause-entered
+returns-then-is_background-clause-entered g c =
+    λ p inside. inl (c.is_background.ensures.0 c.if-is_background.true)
 
-pub returns-then-eq-clause-limit : goal.returns-then-eq-clause-limit
-returns-then-eq-clause-limit g c =
+pub returns-then-is_background-clause-limit : goal.returns-then-is_background-clause-limit
+returns-then-is_background-clause-limit g c =
     let bits = bits_of g.row.U g.row.L g.row.F in
-    let exact = exact_by g.V.PartialEq.eq g.V.Ord.cmp g.met.V.Ord.matches_eq g.met.V.Voxel.exact in
-    let is : c.args.cell ≡ background_cell c.args.self.now =
-    subst (λ (s : Layout g.row.V.Denot). c.args.cell ≡ background_cell s) c.self.view_is (cell_exact g.V.PartialEq.eq exact g.met.V.Eq.laws.refl c.args.cell _ (sym c.eq.ensures ∙ c.if-eq.true)) in
+    let is = c.is_background.ensures.0 c.if-is_background.true in
     subst (λ (d : Cell g.row.V.Denot). roots g.V.PartialEq.eq bits (fill c.args.bounds d (field_of bits c.args.self.now)) ≤ c.args.self.now.limit) (sym is) c.keeps_fills_to_limit.ensures.background_cell
 
-pub returns-then-eq-clause-edges : goal.returns-then-eq-clause-edges
-returns-then-eq-clause-edges g c = λ box was. was
+pub returns-then-is_background-clause-edges : goal.returns-then-is_background-clause-edges
+returns-then-is_background-clause-edges g c = λ box was. was
 
 pub returns-in_err-make_capacity_for-clause-keeps : goal.returns-in_err-make_capacity_for-clause-keeps
 returns-in_err-make_capacity_for-clause-keeps g c = c.in_err-make_capacity_for.ensures.adds.keeps
@@ -43,18 +28,14 @@ returns-in_err-make_capacity_for-clause-keeps g c = c.in_err-make_capacity_for.e
 pub returns-in_err-make_capacity_for-clause-limit : goal.returns-in_err-make_capacity_for-clause-limit
 returns-in_err-make_capacity_for-clause-limit g c =
     let bits = bits_of g.row.U g.row.L g.row.F in
-    let exact = exact_by g.V.PartialEq.eq g.V.Ord.cmp g.met.V.Ord.matches_eq g.met.V.Voxel.exact in
     let full = c.in_err-make_capacity_for.ensures.full in
     let refused : c.from_residual.result ≡ Err RootLimit = grind (arith, common_steps, c.from_residual.ensures, full.0) in
-    let other : c.args.cell ≢ background_cell c.args.self.now = λ same.
-    never c.if-eq.false (c.eq.ensures ∙ cell_same g.V.PartialEq.eq exact g.met.V.Eq.laws.refl c.args.cell _ (subst (λ (s : Layout g.row.V.Denot). c.args.cell ≡ background_cell s) (sym c.self.view_is) same)) in
+    let other : c.args.cell ≢ background_cell c.args.self.now = λ same. never c.if-is_background.false (c.is_background.ensures.1 same) in
     obeys_full g.V.PartialEq.eq bits c.args.self.now.limit _ c.from_residual.result refused (full.1 c.args.cell other)
 
 pub returns-in_err-make_capacity_for-clause-background_cell : goal.returns-in_err-make_capacity_for-clause-background_cell
 returns-in_err-make_capacity_for-clause-background_cell g c =
-    let exact = exact_by g.V.PartialEq.eq g.V.Ord.cmp g.met.V.Ord.matches_eq g.met.V.Voxel.exact in
-    λ same.
-    absurd (never c.if-eq.false (c.eq.ensures ∙ cell_same g.V.PartialEq.eq exact g.met.V.Eq.laws.refl c.args.cell _ (subst (λ (s : Layout g.row.V.Denot). c.args.cell ≡ background_cell s) (sym c.self.view_is) same)))
+    λ same. absurd (never c.if-is_background.false (c.is_background.ensures.1 same))
 
 pub returns-in_err-make_capacity_for-clause-edges : goal.returns-in_err-make_capacity_for-clause-edges
 returns-in_err-make_capacity_for-clause-edges g c = split_background (bits_of g.row.U g.row.L g.row.F) c.args.self.now c.make_capacity_for.new.self c.in_err-make_capacity_for.ensures.adds
@@ -72,9 +53,7 @@ returns-clause-limit g c =
 
 pub returns-clause-background_cell : goal.returns-clause-background_cell
 returns-clause-background_cell g c =
-    let exact = exact_by g.V.PartialEq.eq g.V.Ord.cmp g.met.V.Ord.matches_eq g.met.V.Voxel.exact in
-    λ same.
-    absurd (never c.if-eq.false (c.eq.ensures ∙ cell_same g.V.PartialEq.eq exact g.met.V.Eq.laws.refl c.args.cell _ (subst (λ (s : Layout g.row.V.Denot). c.args.cell ≡ background_cell s) (sym c.self.view_is) same)))
+    λ same. absurd (never c.if-is_background.false (c.is_background.ensures.1 same))
 
 pub returns-clause-edges : goal.returns-clause-edges
 returns-clause-edges g c =
@@ -83,8 +62,8 @@ returns-clause-edges g c =
     (adds_background_twice bits c.args.self.now c.make_capacity_for.new.self c.enter_blocks.new.self c.in_ok-make_capacity_for.ensures.adds
     (adds_background_none bits c.make_capacity_for.new.self c.enter_blocks.new.self c.enter_blocks.ensures.keeps c.enter_blocks.ensures.same))
 
-pub returns-then-eq-clause-adds : goal.returns-then-eq-clause-adds
-returns-then-eq-clause-adds g c = λ _. adds_itself (bits_of g.row.U g.row.L g.row.F) c.args.self.now
+pub returns-then-is_background-clause-adds : goal.returns-then-is_background-clause-adds
+returns-then-is_background-clause-adds g c = λ _. adds_itself (bits_of g.row.U g.row.L g.row.F) c.args.self.now
 
 pub returns-in_err-make_capacity_for-clause-nodes : goal.returns-in_err-make_capacity_for-clause-nodes
 returns-in_err-make_capacity_for-clause-nodes g c = c.in_err-make_capacity_for.ensures.adds.nodes
@@ -98,9 +77,8 @@ returns-in_err-make_capacity_for-clause-no_keys g c = λ same. c.in_err-make_cap
 pub returns-in_err-make_capacity_for-clause-adds : goal.returns-in_err-make_capacity_for-clause-adds
 returns-in_err-make_capacity_for-clause-adds g c =
     let bits = bits_of g.row.U g.row.L g.row.F in
-    let exact = exact_by g.V.PartialEq.eq g.V.Ord.cmp g.met.V.Ord.matches_eq g.met.V.Voxel.exact in
     λ h. elim h [
-      | inl same ↦ absurd (never c.if-eq.false (c.eq.ensures ∙ cell_same g.V.PartialEq.eq exact g.met.V.Eq.laws.refl c.args.cell _ (subst (λ (s : Layout g.row.V.Denot). c.args.cell ≡ background_cell s) (sym c.self.view_is) same)))
+      | inl same ↦ absurd (never c.if-is_background.false (c.is_background.ensures.1 same))
       | inr capacity ↦ subst (λ (t : Layout g.row.V.Denot). AddsNodes bits c.args.self.now t) (sym (c.in_err-make_capacity_for.ensures.stays capacity)) (adds_itself bits c.args.self.now)
     ]
 
@@ -118,15 +96,12 @@ returns-clause-keys g c =
 
 pub returns-clause-no_keys : goal.returns-clause-no_keys
 returns-clause-no_keys g c =
-    let exact = exact_by g.V.PartialEq.eq g.V.Ord.cmp g.met.V.Ord.matches_eq g.met.V.Voxel.exact in
-    λ same.
-    absurd (never c.if-eq.false (c.eq.ensures ∙ cell_same g.V.PartialEq.eq exact g.met.V.Eq.laws.refl c.args.cell _ (subst (λ (s : Layout g.row.V.Denot). c.args.cell ≡ background_cell s) (sym c.self.view_is) same)))
+    λ same. absurd (never c.if-is_background.false (c.is_background.ensures.1 same))
 
 pub returns-clause-adds : goal.returns-clause-adds
 returns-clause-adds g c =
     let bits = bits_of g.row.U g.row.L g.row.F in
-    let exact = exact_by g.V.PartialEq.eq g.V.Ord.cmp g.met.V.Ord.matches_eq g.met.V.Voxel.exact in
     λ h. elim h [
-      | inl same ↦ absurd (never c.if-eq.false (c.eq.ensures ∙ cell_same g.V.PartialEq.eq exact g.met.V.Eq.laws.refl c.args.cell _ (subst (λ (s : Layout g.row.V.Denot). c.args.cell ≡ background_cell s) (sym c.self.view_is) same)))
+      | inl same ↦ absurd (never c.if-is_background.false (c.is_background.ensures.1 same))
       | inr capacity ↦ subst (λ (t : Layout g.row.V.Denot). AddsNodes bits t c.enter_blocks.new.self) (c.in_ok-make_capacity_for.ensures.stays capacity) c.enter_blocks.ensures.adds
     ]

@@ -1,7 +1,5 @@
-use Rattle.std.proofs.Common.{◌∙◌, ap}
+use Rattle.vdb_tree.proofs.Common.{◌∙◌, ap, bits_of, field_of, acts_at}
 use Rattle.std.proofs.lemmas.Result.{on_ok_weaker}
-use Rattle.vdb_tree.specs.Layout.{bits_of, field_of}
-use Rattle.vdb_tree.specs.internal.Pairing.{acts_at}
 use Rattle.vdb_tree.proofs.Levels.{some_held}
 use Rattle.vdb_tree.proofs.RuledRoots.{no_unite_intersect, no_unite_subtract, ruled_keeps}
 use Rattle.vdb_tree.proofs.Uniform.{exact_by}

@@ -1,5 +1,4 @@
-use Rattle.vdb_coord.specs.Blocks.{key}
-use Rattle.vdb_tree.specs.Layout.{bits_of}
+use Rattle.vdb_tree.proofs.Common.{key, bits_of}
 use Rattle.vdb_tree.proofs.ActiveCapacities.{active_capacity_stays}
 use Rattle.vdb_tree.proofs.Blocks.{never}
 use Rattle.vdb_tree.proofs.MadeNodes.{same_no_node}

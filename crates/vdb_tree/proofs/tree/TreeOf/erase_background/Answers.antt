@@ -1,9 +1,4 @@
-use Rattle.std.proofs.Common.{◌∙◌, refl, subst, sym}
-use Rattle.vdb_coord.specs.declared.Coord.{Coord}
-use Rattle.vdb_tree.specs.Changes.{IsNoBackgroundRoot, Keeps}
-use Rattle.vdb_tree.specs.Layout.{Layout, bits_of}
-use Rattle.vdb_tree.specs.internal.Erase.{AddsBackgroundTiles}
-use Rattle.vdb_tree.specs.Nodes.{MakesNoKey}
+use Rattle.vdb_tree.proofs.Common.{◌∙◌, refl, subst, sym, Coord, IsNoBackgroundRoot, Keeps, Layout, bits_of, AddsBackgroundTiles, MakesNoKey}
 use Rattle.vdb_tree.proofs.Erasing.{erased_end, erased_next, erased_none, next_of_old}
 use Rattle.vdb_tree.proofs.KeysPast.{fewer_past}
 use Rattle.vdb_tree.proofs.tree.TreeOf.erase_background.Goals as goal

@@ -1,9 +1,4 @@
-use Rattle.std.proofs.Common.{subst, IsTrue}
-use Rattle.std.specs.Prelude.{◌↔◌}
-use Rattle.vdb_coord.specs.declared.Coord.{Coord}
-use Rattle.vdb_coord.specs.declared.Level.TheVariants.{Upper}
-use Rattle.vdb_tree.specs.Changes.{IsConstantBlock, PrunesRoot}
-use Rattle.vdb_tree.specs.Layout.{Layout, bits_of, background_cell}
+use Rattle.vdb_tree.proofs.Common.{subst, Coord, PrunesRoot, bits_of, background_cell}
 use Rattle.vdb_tree.proofs.Blocks.{never}
 use Rattle.vdb_tree.proofs.Erasing.{erases_none, erases_pruned}
 use Rattle.vdb_tree.proofs.RootSweeps.{prunes_root}
@@ -14,7 +9,7 @@ returns-then-root_block_is-clause-erased g c =
     let bits = bits_of g.row.U g.row.L g.row.F in
     let t = c.args.self.now in
     let p = c.key_corner-corner.result in
-    let test = subst (λ (s : Layout g.row.V.Denot). IsTrue c.root_block_is.result ↔ IsConstantBlock bits Upper t p (background_cell s)) c.self.view_is c.root_block_is.ensures in
+    let test = rw c.background_cell.ensures at c.root_block_is.ensures in
     let prunes = subst (λ (k : Coord). PrunesRoot bits t c.drop_background.new.self k) c.key_corner-corner.ensures.number
     (prunes_root bits t c.prune_upper.new.self c.drop_background.new.self p
     c.prune_upper.ensures.keeps c.prune_upper.ensures.others c.prune_upper.ensures.table c.prune_upper.ensures.needed
@@ -26,5 +21,5 @@ returns-else-root_block_is-clause-erased g c =
     let bits = bits_of g.row.U g.row.L g.row.F in
     let t = c.args.self.now in
     let p = c.key_corner-corner.result in
-    let test = subst (λ (s : Layout g.row.V.Denot). IsTrue c.root_block_is.result ↔ IsConstantBlock bits Upper t p (background_cell s)) c.self.view_is c.root_block_is.ensures in
+    let test = rw c.background_cell.ensures at c.root_block_is.ensures in
     erases_none bits t p c.in_ok-key.key c.key_corner-corner.ensures.number (λ const. never c.if-root_block_is.false (test.1 const))

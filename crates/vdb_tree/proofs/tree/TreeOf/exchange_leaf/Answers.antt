@@ -1,5 +1,4 @@
-use Rattle.std.proofs.Common.{◌∙◌, ap, refl, sym}
-use Rattle.vdb_node.specs.declared.Entry.TheVariants.{Child}
+use Rattle.vdb_tree.proofs.Common.{◌∙◌, ap, refl, sym, Child}
 use Rattle.vdb_tree.proofs.LeafBlocks.{leaf_around}
 use Rattle.vdb_tree.proofs.LeafWrites.{leaf_field, leaf_sound, whole_after}
 use Rattle.vdb_tree.proofs.Passes.{descent_by}

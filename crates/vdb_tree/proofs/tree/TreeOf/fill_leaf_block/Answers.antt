@@ -1,12 +1,4 @@
-use Rattle.std.proofs.Common.{◌≡◌, ◌∙◌, ap, arith, subst, Err}
-use Rattle.std.proofs.lemmas.Grind.{common_steps}
-use Rattle.vdb_coord.specs.Blocks.{block_around}
-use Rattle.vdb_coord.specs.Space.{Box}
-use Rattle.vdb_coord.specs.declared.Bits.{Bits}
-use Rattle.vdb_coord.specs.declared.Level.TheVariants.{Leaf}
-use Rattle.vdb_tree.specs.Field.{fill}
-use Rattle.vdb_tree.specs.Layout.{bits_of, field_of}
-use Rattle.vdb_tree.specs.Outcome.{ObeysLimit}
+use Rattle.vdb_tree.proofs.Common.{◌≡◌, ◌∙◌, ap, arith, subst, Err, common_steps, block_around, Box, Bits, Leaf, fill, bits_of, field_of, ObeysLimit}
 use Rattle.vdb_tree.proofs.tree.TreeOf.fill_leaf_block.Goals as goal
 
 pub returns-in_err-split-clause-outcome : goal.returns-in_err-split-clause-outcome

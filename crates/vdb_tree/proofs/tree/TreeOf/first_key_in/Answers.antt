@@ -1,7 +1,4 @@
-use Rattle.std.proofs.Common.{◌≡◌, ◌∙◌, ap, sym, true, false}
-use Rattle.std.specs.Prelude.{None, IsSome, is_some}
-use Rattle.vdb_coord.specs.Blocks.{key}
-use Rattle.vdb_tree.specs.Layout.{bits_of, root_at}
+use Rattle.vdb_tree.proofs.Common.{◌≡◌, ◌∙◌, ap, sym, true, false, None, IsSome, is_some, key, bits_of, root_at}
 use Rattle.vdb_tree.proofs.KeysMet.{met_first, met_past_first, none_not}
 use Rattle.vdb_tree.proofs.tree.TreeOf.first_key_in.Goals as goal
 

@@ -1,15 +1,4 @@
-use Rattle.std.proofs.Common.{◌≡◌, ◌∙◌, ◌&&◌, subst, sym, true}
-use Rattle.std.specs.Prelude.{IsSome}
-use Rattle.vdb_coord.specs.Blocks.{block_around, block_number}
-use Rattle.vdb_coord.specs.Space.{Box, is_box, is_inside}
-use Rattle.vdb_coord.specs.declared.Bits.{Bits}
-use Rattle.vdb_coord.specs.declared.Coord.{Coord}
-use Rattle.vdb_coord.specs.declared.Level.TheVariants.{Upper}
-use Rattle.vdb_coord.proofs.BlockOrder.{not_before_min}
-use Rattle.vdb_coord.proofs.Boxes.{and_true, both}
-use Rattle.vdb_coord.proofs.Nesting.{inside_numbered, number_in_block}
-use Rattle.vdb_coord.proofs.Walk.{min_inside}
-use Rattle.vdb_tree.specs.Layout.{bits_of, root_at}
+use Rattle.vdb_tree.proofs.Common.{◌≡◌, ◌∙◌, ◌&&◌, subst, sym, true, IsSome, block_around, block_number, Box, is_box, is_inside, Bits, Coord, Upper, not_before_min, and_true, both, inside_numbered, number_in_block, min_inside, bits_of, root_at}
 use Rattle.vdb_tree.proofs.Blocks.{never}
 use Rattle.vdb_tree.proofs.tree.TreeOf.first_within_root.Goals as goal
 

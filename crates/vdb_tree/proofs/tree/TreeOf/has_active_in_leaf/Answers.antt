@@ -1,6 +1,4 @@
-use Rattle.std.proofs.Common.{◌≡◌, ◌<◌, ◌∙◌, sym, subst, rules}
-use Rattle.vdb_coord.specs.declared.Level.TheVariants.{Leaf}
-use Rattle.vdb_tree.specs.Layout.{bits_of, field_of}
+use Rattle.vdb_tree.proofs.Common.{◌≡◌, ◌<◌, ◌∙◌, sym, subst, rules, Leaf, bits_of, field_of}
 use Rattle.vdb_tree.proofs.ActiveBlocks.{active_counted, inactive_counted}
 use Rattle.vdb_tree.proofs.tree.TreeOf.has_active_in_leaf.Goals as goal
 

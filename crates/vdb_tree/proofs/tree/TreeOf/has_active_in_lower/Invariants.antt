@@ -1,8 +1,4 @@
-use Rattle.std.proofs.Common.{◌≤◌, ◌-◌}
-use Rattle.vdb_coord.specs.Blocks.{entries}
-use Rattle.vdb_coord.specs.declared.Level.TheVariants.{Lower}
-use Rattle.vdb_tree.specs.internal.Active.{IsInactiveFrom}
-use Rattle.vdb_tree.specs.Layout.{bits_of, field_of}
+use Rattle.vdb_tree.proofs.Common.{◌≤◌, ◌-◌, entries, Lower, IsInactiveFrom, bits_of, field_of}
 use Rattle.vdb_tree.proofs.tree.TreeOf.has_active_in_lower.Given as goal
 
 abbrev pub invariant-entries : goal.invariant-entries

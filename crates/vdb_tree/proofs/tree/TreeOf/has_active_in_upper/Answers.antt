@@ -1,6 +1,4 @@
-use Rattle.std.proofs.Common.{arith}
-use Rattle.vdb_coord.specs.declared.Level.TheVariants.{Upper}
-use Rattle.vdb_tree.specs.Layout.{bits_of, field_of}
+use Rattle.vdb_tree.proofs.Common.{arith, Upper, bits_of, field_of}
 use Rattle.vdb_tree.proofs.ActiveBlocks.{inactive_all, inactive_next, inactive_none}
 use Rattle.vdb_tree.proofs.Constants.{entries_few}
 use Rattle.vdb_tree.proofs.UnlikeEntries.{index_after, index_fits, least, nearer}

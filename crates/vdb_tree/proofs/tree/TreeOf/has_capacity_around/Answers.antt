@@ -1,9 +1,4 @@
-use Rattle.std.proofs.Common.{subst}
-use Rattle.std.specs.List.{IsDistinct}
-use Rattle.std.specs.Map.{keys_of}
-use Rattle.vdb_coord.specs.Blocks.{key}
-use Rattle.vdb_coord.specs.Space.{coord_eq}
-use Rattle.vdb_tree.specs.Layout.{Layout, bits_of}
+use Rattle.vdb_tree.proofs.Common.{subst, IsDistinct, keys_of, key, coord_eq, Layout, bits_of}
 use Rattle.vdb_tree.proofs.ActiveCapacities.{active_capacity}
 use Rattle.vdb_tree.proofs.tree.TreeOf.has_capacity_around.Goals as goal
 

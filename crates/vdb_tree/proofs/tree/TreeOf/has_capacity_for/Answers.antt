@@ -1,9 +1,4 @@
-use Rattle.std.proofs.Common.{◌≡◌, ◌<◌, true, false, rules}
-use Rattle.std.specs.Prelude.{is_none}
-use Rattle.vdb_coord.specs.Blocks.{key}
-use Rattle.vdb_coord.proofs.Boxes.{both}
-use Rattle.vdb_coord.proofs.Walk.{min_inside}
-use Rattle.vdb_tree.specs.Layout.{bits_of, root_at}
+use Rattle.vdb_tree.proofs.Common.{◌≡◌, ◌<◌, true, false, rules, is_none, key, both, min_inside, bits_of, root_at}
 use Rattle.vdb_tree.proofs.CapacityWalks.{CountsWith, counts_all, counts_full, counts_held, counts_more, counts_next, counts_none, none_from, some_from}
 use Rattle.vdb_tree.proofs.tree.TreeOf.has_capacity_for.Goals as goal
 use Rattle.vdb_tree.proofs.tree.TreeOf.has_capacity_for.Goals.{then-is_none+else-capacity-eq0, else-is_none}

@@ -1,7 +1,4 @@
-use Rattle.std.specs.Prelude.{IsTrue}
-use Rattle.vdb_coord.specs.Space.{is_inside}
-use Rattle.vdb_coord.specs.Walk.{coordinates_after}
-use Rattle.vdb_tree.specs.Layout.{bits_of}
+use Rattle.vdb_tree.proofs.Common.{IsTrue, is_inside, coordinates_after, bits_of}
 use Rattle.vdb_tree.proofs.CapacityWalks.{CountsTo}
 use Rattle.vdb_tree.proofs.tree.TreeOf.has_capacity_for.Given as goal
 

@@ -1,9 +1,4 @@
-use Rattle.std.proofs.Common.{◌≡◌, ◌<◌, ◌⊎◌, inl, inr, false, rules, subst}
-use Rattle.std.specs.Prelude.{IsSome, None}
-use Rattle.vdb_coord.specs.Blocks.{key}
-use Rattle.vdb_coord.specs.declared.Coord.{Coord}
-use Rattle.vdb_tree.specs.internal.ActiveCapacity.{IsActiveKey}
-use Rattle.vdb_tree.specs.Layout.{bits_of, cell_at, root_at}
+use Rattle.vdb_tree.proofs.Common.{◌≡◌, ◌<◌, ◌⊎◌, inl, inr, false, rules, subst, IsSome, None, key, Coord, IsActiveKey, bits_of, cell_at, root_at}
 use Rattle.vdb_tree.proofs.ActiveCapacities.{counts_all, counts_full, counts_held, counts_idle, counts_more, counts_none}
 use Rattle.vdb_tree.proofs.KeysPast.{fewer_past}
 use Rattle.vdb_tree.proofs.tree.TreeOf.has_capacity_for_active.Goals as goal

@@ -1,6 +1,4 @@
-use Rattle.std.proofs.Common.{rules}
-use Rattle.vdb_coord.proofs.Meeting.{fits_everywhere}
-use Rattle.vdb_coord.specs.declared.Level.TheVariants.{Leaf}
+use Rattle.vdb_tree.proofs.Common.{rules, fits_everywhere, Leaf}
 use Rattle.vdb_tree.proofs.Needed.{has_needed}
 use Rattle.vdb_tree.proofs.Uniform.{exact_by}
 use Rattle.vdb_tree.proofs.tree.TreeOf.has_leaf_if_non_constant.Goals as goal

@@ -1,7 +1,4 @@
-use Rattle.std.proofs.Common.{ℕ, ◌*◌, ◌≤◌, subst, sym}
-use Rattle.vdb_coord.specs.declared.Level.TheVariants.{Leaf}
-use Rattle.vdb_coord.proofs.Positions.{entries_is}
-use Rattle.vdb_tree.specs.Layout.{bits_of}
+use Rattle.vdb_tree.proofs.Common.{ℕ, ◌*◌, ◌≤◌, subst, sym, Leaf, entries_is, bits_of}
 use Rattle.vdb_tree.proofs.tree.TreeOf.has_leaf_words.Goals as goal
 
 pub returns-clause-capacity : goal.returns-clause-capacity

@@ -1,10 +1,4 @@
-use Rattle.std.proofs.Common.{ap, sym, ◌∙◌, rules}
-use Rattle.vdb_coord.specs.declared.Level.TheVariants.{Leaf}
-use Rattle.vdb_coord.proofs.Meeting.{fits_everywhere}
-use Rattle.vdb_coord.proofs.Positions.{entries_is}
-use Rattle.vdb_mask.specs.Mask.{on_count}
-use Rattle.vdb_node.specs.declared.Entry.TheVariants.{Child}
-use Rattle.vdb_tree.specs.Layout.{bits_of}
+use Rattle.vdb_tree.proofs.Common.{ap, sym, ◌∙◌, rules, Leaf, fits_everywhere, entries_is, on_count, Child, bits_of}
 use Rattle.vdb_tree.proofs.LeafBlocks.{leaf_around}
 use Rattle.vdb_tree.proofs.LeafCounts.{leaf_counted}
 use Rattle.vdb_tree.proofs.tree.TreeOf.held_count.Goals as goal

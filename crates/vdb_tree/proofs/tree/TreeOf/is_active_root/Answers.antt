@@ -1,6 +1,4 @@
-use Rattle.std.proofs.Common.{rules}
-use Rattle.vdb_coord.proofs.Meeting.{fits_everywhere}
-use Rattle.vdb_tree.specs.Layout.{bits_of}
+use Rattle.vdb_tree.proofs.Common.{rules, fits_everywhere, bits_of}
 use Rattle.vdb_tree.proofs.ActiveCapacities.{active_key, idle_key}
 use Rattle.vdb_tree.proofs.tree.TreeOf.is_active_root.Goals as goal
 

@@ -1,7 +1,4 @@
-use Rattle.std.proofs.Common.{subst}
-use Rattle.vdb_tree.specs.Layout.{bits_of}
-use Rattle.vdb_tree.specs.Parts.{IsEnd}
-use Rattle.vdb_tree.specs.declared.queries.ends.End.{End}
+use Rattle.vdb_tree.proofs.Common.{subst, bits_of, IsEnd, End}
 use Rattle.vdb_tree.proofs.Voxels.{active_cell, active_capacity, leaf_inactive, not_on, tile_inactive}
 use Rattle.vdb_tree.proofs.tree.TreeOf.is_inactive.Goals as goal
 

@@ -1,7 +1,6 @@
-use Rattle.vdb_coord.proofs.Boxes.{both}
+use Rattle.vdb_tree.proofs.Common.{both, refl}
 use Rattle.vdb_tree.proofs.Capacities.{fill_exceeds, fill_background, fill_too_wide, fill_within}
 use Rattle.vdb_tree.proofs.Uniform.{exact_by}
-use Rattle.std.proofs.Common.{refl}
 use Rattle.vdb_tree.proofs.tree.TreeOf.keeps_fills_to_limit.Goals as goal
 
 pub returns-clause-background_cell : goal.returns-clause-background_cell

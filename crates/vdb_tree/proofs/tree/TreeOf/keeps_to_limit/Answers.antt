@@ -1,5 +1,4 @@
-use Rattle.std.proofs.Common.{rules}
-use Rattle.vdb_coord.proofs.Meeting.{fits_everywhere}
+use Rattle.vdb_tree.proofs.Common.{rules, fits_everywhere}
 use Rattle.vdb_tree.proofs.Rooted.{altered_within, roots_limit}
 use Rattle.vdb_tree.proofs.Uniform.{exact_by}
 use Rattle.vdb_tree.proofs.Writes.{exceeds}

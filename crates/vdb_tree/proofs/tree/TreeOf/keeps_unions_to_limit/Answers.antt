@@ -1,6 +1,4 @@
-use Rattle.std.proofs.Common.{subst}
-use Rattle.vdb_tree.specs.Layout.{Layout, bits_of}
-use Rattle.vdb_tree.specs.Sound.{IsSound}
+use Rattle.vdb_tree.proofs.Common.{subst, Layout, bits_of, IsSound}
 use Rattle.vdb_tree.proofs.ActiveCapacities.{unite_exceeds, unite_within}
 use Rattle.vdb_tree.proofs.Uniform.{exact_by}
 use Rattle.vdb_tree.proofs.tree.TreeOf.keeps_unions_to_limit.Goals as goal

@@ -1,10 +1,4 @@
-use Rattle.std.proofs.Common.{◌≡◌, ◌∙◌, ap, sym, subst, true}
-use Rattle.vdb_coord.specs.Blocks.{block, block_number, block_numbers}
-use Rattle.vdb_coord.specs.Space.{Box, is_inside}
-use Rattle.vdb_coord.specs.declared.Bits.{Bits}
-use Rattle.vdb_coord.specs.declared.Level.TheVariants.{Upper}
-use Rattle.vdb_coord.proofs.InRange.{number_of_corner}
-use Rattle.vdb_tree.specs.Layout.{bits_of}
+use Rattle.vdb_tree.proofs.Common.{◌≡◌, ◌∙◌, ap, sym, subst, true, block, block_number, block_numbers, Box, is_inside, Bits, Upper, number_of_corner, bits_of}
 use Rattle.vdb_tree.proofs.tree.TreeOf.key_corner.Goals as goal
 
 pub numbered_block_in-requires-clause-within : goal.numbered_block_in-requires-clause-within

@@ -1,9 +1,4 @@
-use Rattle.std.proofs.Common.{◌≡◌, ◌∙◌, ap, sym, false, true}
-use Rattle.std.specs.Prelude.{IsSome, None, Some, is_some}
-use Rattle.vdb_coord.specs.Entries.{numbers_over}
-use Rattle.vdb_coord.specs.Space.{is_inside}
-use Rattle.vdb_coord.specs.declared.Level.TheVariants.{Upper}
-use Rattle.vdb_tree.specs.Layout.{bits_of, root_at}
+use Rattle.vdb_tree.proofs.Common.{◌≡◌, ◌∙◌, ap, sym, false, true, IsSome, None, Some, is_some, numbers_over, is_inside, Upper, bits_of, root_at}
 use Rattle.vdb_tree.proofs.KeysMet.{none_not}
 use Rattle.vdb_tree.proofs.KeysPast.{fewer_leap}
 use Rattle.vdb_tree.proofs.KeySkips.{met_end, met_found, met_on, met_over, met_start, met_there}

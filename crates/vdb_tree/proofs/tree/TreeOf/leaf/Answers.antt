@@ -1,5 +1,4 @@
-use Rattle.std.proofs.Common.{◌∙◌, rules}
-use Rattle.vdb_coord.proofs.Meeting.{fits_everywhere}
+use Rattle.vdb_tree.proofs.Common.{◌∙◌, rules, fits_everywhere}
 use Rattle.vdb_tree.proofs.LeafBlocks.{tile_around}
 use Rattle.vdb_tree.proofs.tree.TreeOf.leaf.Goals as goal
 

@@ -1,6 +1,4 @@
-use Rattle.std.proofs.Common.{◌∙◌, refl}
-use Rattle.vdb_coord.specs.declared.Level.TheVariants.{Leaf, Lower, Upper}
-use Rattle.vdb_tree.specs.Layout.{bits_of, lower_entry, root_at}
+use Rattle.vdb_tree.proofs.Common.{◌∙◌, refl, Leaf, Lower, Upper, bits_of, lower_entry, root_at}
 use Rattle.vdb_tree.proofs.MadeNodes.{but_elsewhere, elsewhere_twice}
 use Rattle.vdb_tree.proofs.Needed.{child_of}
 use Rattle.vdb_tree.proofs.Splits.{adds_leaves, adds_twice, keeps_twice}

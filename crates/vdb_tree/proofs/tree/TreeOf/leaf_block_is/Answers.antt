@@ -1,5 +1,4 @@
-use Rattle.vdb_coord.specs.declared.Level.TheVariants.{Leaf}
-use Rattle.vdb_tree.specs.Layout.{bits_of}
+use Rattle.vdb_tree.proofs.Common.{Leaf, bits_of}
 use Rattle.vdb_tree.proofs.BlockTests.{tile_test}
 use Rattle.vdb_tree.proofs.Uniform.{exact_by}
 use Rattle.vdb_tree.proofs.tree.TreeOf.leaf_block_is.Goals as goal

@@ -1,10 +1,4 @@
-use Rattle.std.proofs.Common.{◌≡◌, ◌∙◌, ap, subst, sym}
-use Rattle.vdb_coord.specs.Blocks.{block_around}
-use Rattle.vdb_coord.specs.Space.{Box}
-use Rattle.vdb_coord.specs.declared.Bits.{Bits}
-use Rattle.vdb_coord.specs.declared.Level.TheVariants.{Leaf}
-use Rattle.vdb_tree.specs.Layout.{bits_of}
-use Rattle.vdb_tree.specs.SplitBox.{IsSplit}
+use Rattle.vdb_tree.proofs.Common.{◌≡◌, ◌∙◌, ap, subst, sym, block_around, Box, Bits, Leaf, bits_of, IsSplit}
 use Rattle.vdb_tree.proofs.WrittenLeaves.{leaf_split}
 use Rattle.vdb_tree.proofs.tree.TreeOf.leaf_bounds.Goals as goal
 

@@ -1,8 +1,4 @@
-use Rattle.std.proofs.Common.{◌<◌, sym, subst}
-use Rattle.vdb_coord.specs.Blocks.{entries}
-use Rattle.vdb_coord.specs.declared.Bits.{Bits}
-use Rattle.vdb_coord.specs.declared.Level.TheVariants.{Lower}
-use Rattle.vdb_tree.specs.Layout.{bits_of}
+use Rattle.vdb_tree.proofs.Common.{◌<◌, sym, subst, entries, Bits, Lower, bits_of}
 use Rattle.vdb_tree.proofs.BlockTests.{same_upper}
 use Rattle.vdb_tree.proofs.UnlikeEntries.{entry_at}
 use Rattle.vdb_tree.proofs.tree.TreeOf.leaf_corner.Goals as goal

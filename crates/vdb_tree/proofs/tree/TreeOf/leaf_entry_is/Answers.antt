@@ -1,5 +1,4 @@
-use Rattle.vdb_coord.specs.declared.Level.TheVariants.{Lower}
-use Rattle.vdb_tree.specs.Layout.{bits_of}
+use Rattle.vdb_tree.proofs.Common.{Lower, bits_of}
 use Rattle.vdb_tree.proofs.BlockTests.{entry_test}
 use Rattle.vdb_tree.proofs.tree.TreeOf.leaf_entry_is.Goals as goal
 

@@ -1,10 +1,4 @@
-use Rattle.std.proofs.Common.{◌≡◌, ap, sym, ◌∙◌}
-use Rattle.std.specs.Prelude.{Some}
-use Rattle.vdb_coord.specs.Blocks.{entries}
-use Rattle.vdb_coord.specs.declared.Level.TheVariants.{Lower}
-use Rattle.vdb_node.specs.declared.Entry.TheVariants.{Child}
-use Rattle.vdb_pool.specs.Contents.{node_at}
-use Rattle.vdb_tree.specs.Layout.{bits_of, background_cell, lower_entry}
+use Rattle.vdb_tree.proofs.Common.{◌≡◌, ap, sym, ◌∙◌, Some, entries, Lower, Child, node_at, bits_of, background_cell, lower_entry}
 use Rattle.vdb_tree.proofs.Constants.{entries_some, last_ends, last_within, node_iff}
 use Rattle.vdb_tree.proofs.Descents.{lower_node_entry}
 use Rattle.vdb_tree.proofs.Passes.{childless_if}

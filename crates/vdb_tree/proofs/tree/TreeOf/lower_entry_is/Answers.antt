@@ -1,5 +1,4 @@
-use Rattle.vdb_coord.specs.declared.Level.TheVariants.{Upper}
-use Rattle.vdb_tree.specs.Layout.{bits_of}
+use Rattle.vdb_tree.proofs.Common.{Upper, bits_of}
 use Rattle.vdb_tree.proofs.BlockTests.{entry_test}
 use Rattle.vdb_tree.proofs.tree.TreeOf.lower_entry_is.Goals as goal
 

@@ -1,6 +1,4 @@
-use Rattle.std.proofs.Common.{arith, refl}
-use Rattle.vdb_coord.specs.declared.Level.TheVariants.{Lower}
-use Rattle.vdb_tree.specs.Layout.{bits_of}
+use Rattle.vdb_tree.proofs.Common.{arith, refl, Lower, bits_of}
 use Rattle.vdb_tree.proofs.BlockTests.{entry_differs, none_below}
 use Rattle.vdb_tree.proofs.Constants.{entries_few}
 use Rattle.vdb_tree.proofs.UnlikeEntries.{below_all, below_next, index_after, index_fits, least, nearer}

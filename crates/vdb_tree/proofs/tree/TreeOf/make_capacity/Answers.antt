@@ -1,9 +1,4 @@
-use Rattle.std.proofs.Common.{◌≡◌, ◌≤◌, ◌<◌, sym, subst, refl}
-use Rattle.vdb_coord.specs.Blocks.{key}
-use Rattle.vdb_tree.specs.Field.{Field}
-use Rattle.vdb_tree.specs.internal.Altered.{AreSameCells, IsAlteredIn}
-use Rattle.vdb_tree.specs.Layout.{bits_of, field_of}
-use Rattle.vdb_tree.specs.ConstantBlocks.{roots}
+use Rattle.vdb_tree.proofs.Common.{◌≡◌, ◌≤◌, ◌<◌, sym, subst, refl, key, Field, AreSameCells, IsAlteredIn, bits_of, field_of, roots}
 use Rattle.vdb_tree.proofs.Blocks.{never}
 use Rattle.vdb_tree.proofs.Equations.{keeps_field}
 use Rattle.vdb_tree.proofs.tree.TreeOf.make_capacity.Goals as goal

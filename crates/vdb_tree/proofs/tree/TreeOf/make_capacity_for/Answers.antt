@@ -1,9 +1,4 @@
-use Rattle.std.proofs.Common.{◌≡◌, ◌≢◌, ◌<◌, ◌≤◌, refl, rules, subst, sym}
-use Rattle.vdb_coord.specs.Entries.{blocks_meeting}
-use Rattle.vdb_coord.specs.declared.Level.TheVariants.{Upper}
-use Rattle.vdb_tree.specs.Field.{Field, fill}
-use Rattle.vdb_tree.specs.Layout.{bits_of, field_of}
-use Rattle.vdb_tree.specs.ConstantBlocks.{roots}
+use Rattle.vdb_tree.proofs.Common.{◌≡◌, ◌≢◌, ◌<◌, ◌≤◌, refl, rules, subst, sym, blocks_meeting, Upper, Field, fill, bits_of, field_of, roots}
 use Rattle.vdb_tree.proofs.Equations.{keeps_field}
 use Rattle.vdb_tree.proofs.Erasing.{background_stays}
 use Rattle.vdb_tree.proofs.Capacities.{capacity_or_lack}

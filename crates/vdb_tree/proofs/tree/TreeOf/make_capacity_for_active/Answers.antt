@@ -1,7 +1,4 @@
-use Rattle.std.proofs.Common.{◌≡◌, ◌<◌, ◌≤◌, refl, subst}
-use Rattle.vdb_tree.specs.ConstantBlocks.{roots}
-use Rattle.vdb_tree.specs.Field.{Field, unite}
-use Rattle.vdb_tree.specs.Layout.{bits_of, field_of}
+use Rattle.vdb_tree.proofs.Common.{◌≡◌, ◌<◌, ◌≤◌, refl, subst, roots, Field, unite, bits_of, field_of}
 use Rattle.vdb_tree.proofs.Equations.{keeps_field}
 use Rattle.vdb_tree.proofs.tree.TreeOf.make_capacity_for_active.Goals as goal
 

@@ -1,12 +1,5 @@
-use Rattle.std.proofs.Common.{refl, subst}
-use Rattle.std.specs.Prelude.{Option}
-use Rattle.vdb_coord.specs.declared.Coord.{Coord}
-use Rattle.vdb_coord.proofs.Boxes.{both}
-use Rattle.vdb_coord.proofs.Walk.{min_inside}
-use Rattle.vdb_tree.specs.Layout.{bits_of}
-use Rattle.vdb_tree.specs.internal.Voxelised.{IsVoxelisedTo}
+use Rattle.vdb_tree.proofs.Common.{refl, subst, Option, Coord, both, min_inside, bits_of, IsVoxelisedTo, IsActiveIn}
 use Rattle.vdb_tree.proofs.Equations.{keeps_field}
-use Rattle.vdb_tree.specs.Nodes.{IsActiveIn}
 use Rattle.vdb_tree.proofs.MadeNodes.{keys_twice, makes_none, makes_twice}
 use Rattle.vdb_tree.proofs.Splits.{adds_itself, adds_twice, keeps_itself, keeps_twice}
 use Rattle.vdb_tree.proofs.Voxels.{begins, goes_on}

@@ -1,10 +1,4 @@
-use Rattle.std.specs.Prelude.{IfSome, IsTrue}
-use Rattle.vdb_coord.specs.Space.{is_inside}
-use Rattle.vdb_tree.specs.Changes.{AddsNodes, Keeps}
-use Rattle.vdb_tree.specs.Layout.{bits_of}
-use Rattle.vdb_tree.specs.Nodes.{IsActiveIn, MakesNoKey, MakesOnly}
-use Rattle.vdb_tree.specs.Parts.{left_count}
-use Rattle.vdb_tree.specs.internal.Voxelised.{IsVoxelisedTo}
+use Rattle.vdb_tree.proofs.Common.{IfSome, IsTrue, is_inside, AddsNodes, Keeps, bits_of, IsActiveIn, MakesNoKey, MakesOnly, left_count, IsVoxelisedTo}
 use Rattle.vdb_tree.proofs.tree.TreeOf.make_leaves.Given as goal
 
 abbrev pub invariant-loop-next : goal.invariant-loop-next

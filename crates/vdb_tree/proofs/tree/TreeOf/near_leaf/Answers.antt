@@ -1,5 +1,4 @@
-use Rattle.std.proofs.Common.{sym, ◌∙◌}
-use Rattle.vdb_tree.specs.Layout.{bits_of}
+use Rattle.vdb_tree.proofs.Common.{sym, ◌∙◌, bits_of}
 use Rattle.vdb_tree.proofs.Paths.{leaf_shared, no_leaf_lower, no_leaf_upper}
 use Rattle.vdb_tree.proofs.tree.TreeOf.near_leaf.Goals as goal
 

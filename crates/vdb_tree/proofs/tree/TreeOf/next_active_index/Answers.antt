@@ -1,9 +1,4 @@
-use Rattle.std.proofs.Common.{◌≡◌, ap, sym, ◌∙◌}
-use Rattle.std.specs.Prelude.{Some}
-use Rattle.vdb_coord.specs.declared.Level.TheVariants.{Upper}
-use Rattle.vdb_node.specs.declared.Entry.TheVariants.{Child}
-use Rattle.vdb_pool.specs.Contents.{node_at}
-use Rattle.vdb_tree.specs.Layout.{background_cell, bits_of, upper_entry}
+use Rattle.vdb_tree.proofs.Common.{◌≡◌, ap, sym, ◌∙◌, Some, Upper, Child, node_at, background_cell, bits_of, upper_entry}
 use Rattle.vdb_tree.proofs.Descents.{tile_cell, tile_lower, upper_node_entry}
 use Rattle.vdb_tree.proofs.Ruled.{next_active}
 use Rattle.vdb_tree.proofs.tree.TreeOf.next_active_index.Goals as goal

@@ -1,11 +1,4 @@
-use Rattle.std.proofs.Common.{◌≡◌, rules, ap, sym, ◌∙◌}
-use Rattle.std.specs.Prelude.{Some}
-use Rattle.vdb_coord.specs.declared.Level.TheVariants.{Upper}
-use Rattle.vdb_coord.proofs.Meeting.{fits_everywhere}
-use Rattle.vdb_coord.proofs.Positions.{entries_is}
-use Rattle.vdb_node.specs.declared.Entry.TheVariants.{Child}
-use Rattle.vdb_pool.specs.Contents.{node_at}
-use Rattle.vdb_tree.specs.Layout.{bits_of, upper_entry, background_cell}
+use Rattle.vdb_tree.proofs.Common.{◌≡◌, rules, ap, sym, ◌∙◌, Some, Upper, fits_everywhere, entries_is, Child, node_at, bits_of, upper_entry, background_cell}
 use Rattle.vdb_tree.proofs.ActiveCounts.{next_active}
 use Rattle.vdb_tree.proofs.Descents.{upper_node_entry, tile_cell, tile_lower}
 use Rattle.vdb_tree.proofs.Sizes.{internal_small}

@@ -1,6 +1,4 @@
-use Rattle.std.proofs.Common.{rules, sym, ◌∙◌}
-use Rattle.vdb_coord.proofs.Meeting.{fits_everywhere}
-use Rattle.vdb_tree.specs.Layout.{bits_of}
+use Rattle.vdb_tree.proofs.Common.{rules, sym, ◌∙◌, fits_everywhere, bits_of}
 use Rattle.vdb_tree.proofs.StateRuns.{by_mine, by_others}
 use Rattle.vdb_tree.proofs.tree.TreeOf.next_below_node.Goals as goal
 

@@ -1,6 +1,4 @@
-use Rattle.std.proofs.Common.{rules, sym, ◌∙◌}
-use Rattle.vdb_coord.proofs.Meeting.{fits_everywhere}
-use Rattle.vdb_tree.specs.Layout.{bits_of}
+use Rattle.vdb_tree.proofs.Common.{rules, sym, ◌∙◌, fits_everywhere, bits_of}
 use Rattle.vdb_tree.proofs.StateRuns.{by_mine, each_index, idle_at, tile_idle}
 use Rattle.vdb_tree.proofs.tree.TreeOf.next_below_tile.Goals as goal
 

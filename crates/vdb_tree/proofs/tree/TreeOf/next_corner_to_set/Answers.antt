@@ -1,5 +1,4 @@
-use Rattle.std.proofs.Common.{◌∙◌}
-use Rattle.vdb_tree.specs.Layout.{bits_of}
+use Rattle.vdb_tree.proofs.Common.{◌∙◌, bits_of}
 use Rattle.vdb_tree.proofs.Descents.{upper_by_block}
 use Rattle.vdb_tree.proofs.StateRuns.{corner_there, index_small}
 use Rattle.vdb_tree.proofs.tree.TreeOf.next_corner_to_set.Goals as goal

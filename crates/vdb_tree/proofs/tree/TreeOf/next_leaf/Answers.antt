@@ -1,8 +1,4 @@
-use Rattle.std.proofs.Common.{sym, subst}
-use Rattle.std.specs.Prelude.{Option}
-use Rattle.vdb_coord.specs.declared.Coord.{Coord}
-use Rattle.vdb_tree.specs.Layout.{bits_of}
-use Rattle.vdb_tree.specs.Leaves.{IsNextLeaf}
+use Rattle.vdb_tree.proofs.Common.{sym, subst, Option, Coord, bits_of, IsNextLeaf}
 use Rattle.vdb_tree.proofs.NextLeaf.{all_leaves}
 use Rattle.vdb_tree.proofs.tree.TreeOf.next_leaf.Goals as goal
 

@@ -1,11 +1,4 @@
-use Rattle.std.proofs.Common.{◌≡◌, ◌<◌, ◌≤◌, ℕ, arith, ap, sym, ◌∙◌}
-use Rattle.std.specs.Prelude.{Some}
-use Rattle.vdb_coord.specs.Blocks.{entries}
-use Rattle.vdb_coord.specs.declared.Level.TheVariants.{Leaf, Lower}
-use Rattle.vdb_coord.proofs.Positions.{entries_is}
-use Rattle.vdb_node.specs.declared.Entry.TheVariants.{Child}
-use Rattle.vdb_pool.specs.Contents.{node_at}
-use Rattle.vdb_tree.specs.Layout.{bits_of, background_cell, lower_entry}
+use Rattle.vdb_tree.proofs.Common.{◌≡◌, ◌<◌, ◌≤◌, ℕ, arith, ap, sym, ◌∙◌, Some, entries, Leaf, Lower, entries_is, Child, node_at, bits_of, background_cell, lower_entry}
 use Rattle.vdb_tree.proofs.Constants.{entries_few, next_corner, no_corner}
 use Rattle.vdb_tree.proofs.Descents.{upper_by_block, lower_node_entry}
 use Rattle.vdb_tree.proofs.Passes.{corner_block}

@@ -1,5 +1,4 @@
-use Rattle.std.proofs.Common.{◌∙◌, sym}
-use Rattle.vdb_tree.specs.Layout.{bits_of}
+use Rattle.vdb_tree.proofs.Common.{◌∙◌, sym, bits_of}
 use Rattle.vdb_tree.proofs.KeysPast.{fewer_past}
 use Rattle.vdb_tree.proofs.NextLeaf.{table_found, table_next}
 use Rattle.vdb_tree.proofs.tree.TreeOf.next_leaf_of_keys.Goals as goal

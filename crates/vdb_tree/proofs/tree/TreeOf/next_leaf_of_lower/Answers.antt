@@ -1,14 +1,4 @@
-use Rattle.std.proofs.Common.{rules, ◌≡◌, ◌∙◌, ◌<◌, ℕ, ap, sym, subst}
-use Rattle.std.specs.Prelude.{Some}
-use Rattle.vdb_coord.specs.Blocks.{block_around, entries, sub_block}
-use Rattle.vdb_coord.specs.Space.{Box}
-use Rattle.vdb_coord.specs.declared.Bits.{Bits}
-use Rattle.vdb_coord.specs.declared.Level.TheVariants.{Lower}
-use Rattle.vdb_coord.proofs.Positions.{entries_is}
-use Rattle.vdb_node.specs.declared.Entry.TheVariants.{Child}
-use Rattle.vdb_pool.specs.Contents.{node_at}
-use Rattle.vdb_tree.specs.Layout.{bits_of}
-use Rattle.vdb_tree.specs.internal.Seeks.{IsFirstLeaf, IsFrom}
+use Rattle.vdb_tree.proofs.Common.{rules, ◌≡◌, ◌∙◌, ◌<◌, ℕ, ap, sym, subst, Some, block_around, entries, sub_block, Box, Bits, Lower, entries_is, Child, node_at, bits_of, IsFirstLeaf, IsFrom}
 use Rattle.vdb_tree.proofs.NextChild.{next_leaf_none, next_leaf_some, no_leaf_root, no_leaf_upper}
 use Rattle.vdb_tree.proofs.tree.TreeOf.next_leaf_of_lower.Goals as goal
 

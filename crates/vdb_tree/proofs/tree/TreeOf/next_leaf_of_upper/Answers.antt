@@ -1,5 +1,4 @@
-use Rattle.std.proofs.Common.{◌∙◌, ◌+◌, ℕ, arith, sym, subst}
-use Rattle.vdb_tree.specs.Layout.{bits_of}
+use Rattle.vdb_tree.proofs.Common.{◌∙◌, ◌+◌, ℕ, arith, sym, subst, bits_of}
 use Rattle.vdb_tree.proofs.EntryCounts.{next_fits}
 use Rattle.vdb_tree.proofs.NextLeaf.{IsUpperPassed, upper_end, upper_found, upper_next}
 use Rattle.vdb_tree.proofs.tree.TreeOf.next_leaf_of_upper.Goals as goal

@@ -1,6 +1,4 @@
-use Rattle.std.proofs.Common.{◌≤◌, ◌-◌}
-use Rattle.vdb_node.specs.Nodes.{entry_count}
-use Rattle.vdb_tree.specs.Layout.{bits_of}
+use Rattle.vdb_tree.proofs.Common.{◌≤◌, ◌-◌, entry_count, bits_of}
 use Rattle.vdb_tree.proofs.NextLeaf.{IsUpperPassed}
 use Rattle.vdb_tree.proofs.tree.TreeOf.next_leaf_of_upper.Given as goal
 

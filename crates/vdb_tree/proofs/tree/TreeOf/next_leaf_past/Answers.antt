@@ -1,11 +1,4 @@
-use Rattle.std.proofs.Common.{◌∙◌, ◌+◌, ℕ, ap, sym, subst}
-use Rattle.std.specs.Prelude.{Some}
-use Rattle.vdb_coord.specs.Blocks.{key}
-use Rattle.vdb_coord.specs.declared.Bits.{Bits}
-use Rattle.vdb_coord.specs.declared.Coord.{Coord}
-use Rattle.vdb_coord.specs.declared.Level.TheVariants.{Lower, Upper}
-use Rattle.vdb_tree.specs.Layout.{bits_of}
-use Rattle.vdb_tree.specs.internal.Seeks.{IsFirstLeaf, IsFrom, IsKeyPast}
+use Rattle.vdb_tree.proofs.Common.{◌∙◌, ◌+◌, ℕ, ap, sym, subst, Some, key, Bits, Coord, Lower, Upper, bits_of, IsFirstLeaf, IsFrom, IsKeyPast}
 use Rattle.vdb_tree.proofs.NextLeaf.{past_in_later, past_in_lower, past_in_upper}
 use Rattle.vdb_tree.proofs.tree.TreeOf.next_leaf_past.Goals as goal
 

@@ -1,14 +1,4 @@
-use Rattle.std.proofs.Common.{rules, ◌≡◌, ◌∙◌, ◌<◌, ℕ, ap, sym, subst}
-use Rattle.std.specs.Prelude.{Some}
-use Rattle.vdb_coord.specs.Blocks.{block_around, entries, sub_block}
-use Rattle.vdb_coord.specs.Space.{Box}
-use Rattle.vdb_coord.specs.declared.Bits.{Bits}
-use Rattle.vdb_coord.specs.declared.Level.TheVariants.{Upper}
-use Rattle.vdb_coord.proofs.Positions.{entries_is}
-use Rattle.vdb_node.specs.declared.Entry.TheVariants.{Child}
-use Rattle.vdb_pool.specs.Contents.{node_at}
-use Rattle.vdb_tree.specs.Layout.{bits_of}
-use Rattle.vdb_tree.specs.internal.Seeks.{IsNextLower}
+use Rattle.vdb_tree.proofs.Common.{rules, ◌≡◌, ◌∙◌, ◌<◌, ℕ, ap, sym, subst, Some, block_around, entries, sub_block, Box, Bits, Upper, entries_is, Child, node_at, bits_of, IsNextLower}
 use Rattle.vdb_tree.proofs.NextChild.{next_lower_none, next_lower_some}
 use Rattle.vdb_tree.proofs.tree.TreeOf.next_lower.Goals as goal
 

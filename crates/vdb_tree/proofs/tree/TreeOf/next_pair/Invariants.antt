@@ -1,7 +1,4 @@
-use Rattle.std.proofs.Common.{◌≤◌, false}
-use Rattle.vdb_tree.specs.Layout.{bits_of}
-use Rattle.vdb_tree.specs.Pairs.{IsPairWalk, PassesPairs}
-use Rattle.vdb_tree.specs.Parts.{left_count}
+use Rattle.vdb_tree.proofs.Common.{◌≤◌, false, bits_of, IsPairWalk, PassesPairs, left_count}
 use Rattle.vdb_tree.proofs.tree.TreeOf.next_pair.Given as goal
 
 abbrev pub invariant-starts : goal.invariant-starts

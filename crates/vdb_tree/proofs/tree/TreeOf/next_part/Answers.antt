@@ -1,5 +1,4 @@
-use Rattle.std.proofs.Common.{◌∙◌, arith, false, sym}
-use Rattle.vdb_tree.specs.Layout.{bits_of}
+use Rattle.vdb_tree.proofs.Common.{◌∙◌, arith, false, sym, bits_of}
 use Rattle.vdb_tree.proofs.PartWalks.{if_none, passes_on, some_on}
 use Rattle.vdb_tree.proofs.tree.TreeOf.next_part.Goals as goal
 

@@ -1,6 +1,4 @@
-use Rattle.std.proofs.Common.{◌≤◌, false}
-use Rattle.vdb_tree.specs.Layout.{bits_of}
-use Rattle.vdb_tree.specs.Parts.{IsWalk, Passes, left_count}
+use Rattle.vdb_tree.proofs.Common.{◌≤◌, false, bits_of, IsWalk, Passes, left_count}
 use Rattle.vdb_tree.proofs.tree.TreeOf.next_part.Given as goal
 
 abbrev pub invariant-starts : goal.invariant-starts

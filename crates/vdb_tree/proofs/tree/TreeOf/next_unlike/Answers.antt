@@ -1,8 +1,4 @@
-use Rattle.std.proofs.Common.{rules}
-use Rattle.vdb_coord.specs.declared.Level.TheVariants.{Lower, Upper}
-use Rattle.vdb_coord.proofs.Meeting.{fits_everywhere}
-use Rattle.vdb_tree.specs.Layout.{bits_of}
-use Rattle.vdb_tree.proofs.Descents.{tile_upper}
+use Rattle.vdb_tree.proofs.Common.{rules, Lower, Upper, fits_everywhere, bits_of}
 use Rattle.vdb_tree.proofs.UnlikeEntries.{unlike_in_field}
 use Rattle.vdb_tree.proofs.tree.TreeOf.next_unlike.Goals as goal
 

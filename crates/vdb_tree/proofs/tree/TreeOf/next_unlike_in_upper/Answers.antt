@@ -1,12 +1,4 @@
-use Rattle.std.proofs.Common.{◌≡◌, ◌+◌, ◌<◌, ℕ, ap, arith, sym, subst}
-use Rattle.std.specs.Prelude.{None, Some}
-use Rattle.vdb_coord.specs.Blocks.{entries}
-use Rattle.vdb_coord.specs.declared.Bits.{Bits}
-use Rattle.vdb_coord.specs.declared.Level.TheVariants.{Upper}
-use Rattle.vdb_coord.proofs.Positions.{entries_is}
-use Rattle.vdb_pool.specs.Contents.{node_at}
-use Rattle.vdb_tree.specs.Layout.{bits_of}
-use Rattle.vdb_tree.specs.declared.queries.parts.Skip.TheVariants.{Background}
+use Rattle.vdb_tree.proofs.Common.{◌≡◌, ◌+◌, ◌<◌, ℕ, ap, arith, sym, subst, None, Some, entries, Bits, Upper, entries_is, node_at, bits_of, Background}
 use Rattle.vdb_tree.proofs.EntryCounts.{next_fits}
 use Rattle.vdb_tree.proofs.Jumps.{upper_unlike, part_at}
 use Rattle.vdb_tree.proofs.tree.TreeOf.next_unlike_in_upper.Goals as goal

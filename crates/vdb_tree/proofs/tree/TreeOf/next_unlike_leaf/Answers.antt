@@ -1,10 +1,4 @@
-use Rattle.std.proofs.Common.{◌≡◌, ap, sym, ◌∙◌}
-use Rattle.std.specs.Prelude.{Some}
-use Rattle.vdb_coord.specs.declared.Level.TheVariants.{Lower}
-use Rattle.vdb_coord.proofs.Positions.{entries_is}
-use Rattle.vdb_node.specs.declared.Entry.TheVariants.{Child}
-use Rattle.vdb_pool.specs.Contents.{node_at}
-use Rattle.vdb_tree.specs.Layout.{bits_of, background_cell, lower_entry}
+use Rattle.vdb_tree.proofs.Common.{◌≡◌, ap, sym, ◌∙◌, Some, Lower, entries_is, Child, node_at, bits_of, background_cell, lower_entry}
 use Rattle.vdb_tree.proofs.Descents.{lower_node_entry, tile_cell}
 use Rattle.vdb_tree.proofs.Sizes.{internal_small}
 use Rattle.vdb_tree.proofs.UnlikeEntries.{unlike}

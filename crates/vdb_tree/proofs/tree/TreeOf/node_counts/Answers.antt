@@ -1,6 +1,4 @@
-use Rattle.std.proofs.Common.{◌≡◌, ◌∙◌, sym, subst}
-use Rattle.vdb_tree.specs.Layout.{bits_of, field_of}
-use Rattle.vdb_tree.specs.Smallest.{IsAtMost, least_counts, counts_of}
+use Rattle.vdb_tree.proofs.Common.{◌≡◌, ◌∙◌, sym, subst, bits_of, field_of, IsAtMost, least_counts, counts_of}
 use Rattle.vdb_tree.proofs.Census.{counts_at_least, counts_least}
 use Rattle.vdb_tree.proofs.Needed.{has_needed}
 use Rattle.vdb_tree.proofs.Uniform.{exact_by}

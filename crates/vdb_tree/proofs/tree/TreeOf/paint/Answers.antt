@@ -1,13 +1,4 @@
-use Rattle.std.proofs.Common.{◌≡◌, refl, subst, sym, false}
-use Rattle.vdb_coord.specs.Boxes.{meets}
-use Rattle.vdb_coord.specs.Space.{Box}
-use Rattle.vdb_coord.specs.declared.Coord.{Coord}
-use Rattle.vdb_coord.specs.declared.Level.{Level}
-use Rattle.vdb_node.specs.declared.Entry.TheVariants.{Tile}
-use Rattle.vdb_value.specs.declared.Cell.{Cell}
-use Rattle.vdb_tree.specs.Field.{fill}
-use Rattle.vdb_tree.specs.Layout.{Layout, bits_of, entry_over, field_of}
-use Rattle.vdb_tree.specs.SplitBox.{IsCovered, IsSplit}
+use Rattle.vdb_tree.proofs.Common.{◌≡◌, refl, subst, sym, false, meets, Box, Coord, Level, Tile, Cell, fill, Layout, bits_of, entry_over, field_of, IsCovered, IsSplit}
 use Rattle.vdb_tree.proofs.KeysPast.{fewer_beyond}
 use Rattle.vdb_tree.proofs.PaintedRoots.{next_at_first, painted_again, painted_apart, painted_field, painted_tiles, roots_next, roots_none, roots_split}
 use Rattle.vdb_tree.proofs.tree.TreeOf.paint.Goals as goal

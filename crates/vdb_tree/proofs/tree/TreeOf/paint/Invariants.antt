@@ -1,5 +1,4 @@
-use Rattle.vdb_tree.specs.Layout.{bits_of}
-use Rattle.vdb_tree.specs.internal.Paints.{AreSplit}
+use Rattle.vdb_tree.proofs.Common.{bits_of, AreSplit}
 use Rattle.vdb_tree.proofs.KeysPast.{keys_past}
 use Rattle.vdb_tree.proofs.PaintedRoots.{PaintsRootsTo}
 use Rattle.vdb_tree.proofs.tree.TreeOf.paint.Given as goal

@@ -1,9 +1,4 @@
-use Rattle.std.proofs.Common.{◌∙◌}
-use Rattle.vdb_coord.specs.Blocks.{block_number}
-use Rattle.vdb_coord.specs.declared.Level.TheVariants.{Leaf, Lower}
-use Rattle.vdb_coord.proofs.Boxes.{both}
-use Rattle.vdb_coord.proofs.Nesting.{lower_from_leaf}
-use Rattle.vdb_tree.specs.Layout.{bits_of}
+use Rattle.vdb_tree.proofs.Common.{◌∙◌, block_number, Leaf, Lower, both, lower_from_leaf, bits_of}
 use Rattle.vdb_tree.proofs.Descents.{upper_by_block}
 use Rattle.vdb_tree.proofs.Paints.{PaintsTo, paint_all, paint_next, paint_none, paint_outside}
 use Rattle.vdb_tree.proofs.Passes.{upper_entry_same, uppers_same, uppers_trans}

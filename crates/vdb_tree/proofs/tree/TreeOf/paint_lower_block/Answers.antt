@@ -1,7 +1,4 @@
-use Rattle.std.proofs.Common.{◌∙◌, refl}
-use Rattle.vdb_coord.specs.Blocks.{block_number}
-use Rattle.vdb_coord.specs.declared.Level.TheVariants.{Lower}
-use Rattle.vdb_tree.specs.Layout.{bits_of}
+use Rattle.vdb_tree.proofs.Common.{◌∙◌, refl, block_number, Lower, bits_of}
 use Rattle.vdb_tree.proofs.Blocks.{never}
 use Rattle.vdb_tree.proofs.Clears.{beyond_outside}
 use Rattle.vdb_tree.proofs.Paints.{filled_outside, outside_twice, tiles_painted, uncovered_lower, uncovered_tile}

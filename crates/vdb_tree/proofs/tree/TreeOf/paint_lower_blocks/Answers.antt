@@ -1,9 +1,4 @@
-use Rattle.std.proofs.Common.{◌∙◌, refl}
-use Rattle.vdb_coord.specs.Blocks.{block_number}
-use Rattle.vdb_coord.specs.declared.Level.TheVariants.{Lower, Upper}
-use Rattle.vdb_coord.proofs.Boxes.{both}
-use Rattle.vdb_coord.proofs.Nesting.{upper_from_lower}
-use Rattle.vdb_tree.specs.Layout.{bits_of}
+use Rattle.vdb_tree.proofs.Common.{◌∙◌, refl, block_number, Lower, Upper, both, upper_from_lower, bits_of}
 use Rattle.vdb_tree.proofs.Descents.{root_by_block}
 use Rattle.vdb_tree.proofs.Paints.{PaintsTo, paint_all, paint_next, paint_none, paint_outside}
 use Rattle.vdb_tree.proofs.Passes.{root_entry_same}

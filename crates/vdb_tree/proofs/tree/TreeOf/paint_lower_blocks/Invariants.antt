@@ -1,11 +1,4 @@
-use Rattle.std.proofs.Common.{◌≡◌, IsTrue}
-use Rattle.vdb_coord.specs.Blocks.{block_number}
-use Rattle.vdb_coord.specs.Space.{is_inside}
-use Rattle.vdb_coord.specs.Walk.{coordinates_after}
-use Rattle.vdb_coord.specs.declared.Level.TheVariants.{Lower, Upper}
-use Rattle.vdb_node.specs.declared.Entry.TheVariants.{Child}
-use Rattle.vdb_tree.specs.Layout.{bits_of, root_entry}
-use Rattle.vdb_tree.specs.internal.Paints.{AreSplit}
+use Rattle.vdb_tree.proofs.Common.{◌≡◌, IsTrue, block_number, is_inside, coordinates_after, Lower, Upper, Child, bits_of, root_entry, AreSplit}
 use Rattle.vdb_tree.proofs.Paints.{PaintsTo}
 use Rattle.vdb_tree.proofs.tree.TreeOf.paint_lower_blocks.Given as goal
 

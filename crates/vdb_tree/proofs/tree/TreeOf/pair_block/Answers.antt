@@ -1,6 +1,4 @@
-use Rattle.std.proofs.Common.{rules}
-use Rattle.vdb_coord.proofs.Meeting.{fits_everywhere}
-use Rattle.vdb_tree.specs.Layout.{bits_of}
+use Rattle.vdb_tree.proofs.Common.{rules, fits_everywhere, bits_of}
 use Rattle.vdb_tree.proofs.PairWalks.{around_is, over_first, over_second, pair_level_is}
 use Rattle.vdb_tree.proofs.tree.TreeOf.pair_block.Goals as goal
 

@@ -1,5 +1,4 @@
-use Rattle.std.proofs.Common.{false}
-use Rattle.vdb_tree.specs.Layout.{bits_of}
+use Rattle.vdb_tree.proofs.Common.{false, bits_of}
 use Rattle.vdb_tree.proofs.PairWalks.{passes_from, yields_from}
 use Rattle.vdb_tree.proofs.tree.TreeOf.pair_step.Goals as goal
 

@@ -1,9 +1,4 @@
-use Rattle.std.proofs.Common.{◌∙◌, sym}
-use Rattle.vdb_coord.specs.Blocks.{block_around, block_number}
-use Rattle.vdb_coord.specs.Space.{is_inside}
-use Rattle.vdb_coord.proofs.Boxes.{and_true, both}
-use Rattle.vdb_coord.proofs.Nesting.{inside_around, inside_numbered, number_in_block}
-use Rattle.vdb_tree.specs.Layout.{bits_of}
+use Rattle.vdb_tree.proofs.Common.{◌∙◌, sym, block_around, block_number, is_inside, and_true, both, inside_around, inside_numbered, number_in_block, bits_of}
 use Rattle.vdb_tree.proofs.Blocks.{never}
 use Rattle.vdb_tree.proofs.tree.TreeOf.part.Goals as goal
 

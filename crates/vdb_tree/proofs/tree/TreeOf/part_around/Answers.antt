@@ -1,8 +1,4 @@
-use Rattle.std.proofs.Common.{◌∙◌, rules, sym}
-use Rattle.vdb_coord.specs.declared.Level.TheVariants.{Leaf}
-use Rattle.vdb_coord.proofs.InRange.{block_in_range}
-use Rattle.vdb_coord.proofs.Meeting.{fits_everywhere}
-use Rattle.vdb_tree.specs.Layout.{bits_of, cell_at}
+use Rattle.vdb_tree.proofs.Common.{◌∙◌, rules, sym, Leaf, block_in_range, fits_everywhere, bits_of, cell_at}
 use Rattle.vdb_tree.proofs.Fields.{cell_inside}
 use Rattle.vdb_tree.proofs.PartWalks.{part_is}
 use Rattle.vdb_tree.proofs.PieceCells.{tile_block}

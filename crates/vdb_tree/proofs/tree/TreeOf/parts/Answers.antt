@@ -1,6 +1,4 @@
-use Rattle.vdb_coord.proofs.Boxes.{both}
-use Rattle.vdb_coord.proofs.Walk.{min_inside}
-use Rattle.vdb_tree.specs.Layout.{bits_of}
+use Rattle.vdb_tree.proofs.Common.{both, min_inside, bits_of}
 use Rattle.vdb_tree.proofs.PartWalks.{start_at_corner}
 use Rattle.vdb_tree.proofs.tree.TreeOf.parts.Goals as goal
 

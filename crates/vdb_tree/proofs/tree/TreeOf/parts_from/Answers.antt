@@ -1,9 +1,4 @@
-use Rattle.std.proofs.Common.{◌≡◌, ap, false, subst}
-use Rattle.std.specs.Prelude.{Option, Some}
-use Rattle.vdb_coord.specs.declared.Coord.{Coord}
-use Rattle.vdb_coord.proofs.BlockOrder.{not_before_min}
-use Rattle.vdb_tree.specs.Layout.{bits_of}
-use Rattle.vdb_tree.specs.Parts.{TreeWalk, is_left}
+use Rattle.vdb_tree.proofs.Common.{◌≡◌, ap, false, subst, Option, Some, Coord, not_before_min, bits_of, TreeWalk, is_left}
 use Rattle.vdb_tree.proofs.PartStarts.{gone_before}
 use Rattle.vdb_tree.proofs.tree.TreeOf.parts_from.Goals as goal
 

@@ -1,5 +1,4 @@
-use Rattle.std.proofs.Common.{refl}
-use Rattle.vdb_coord.specs.declared.Level.TheVariants.{Leaf}
+use Rattle.vdb_tree.proofs.Common.{refl, Leaf}
 use Rattle.vdb_tree.proofs.Passes.{block_of_tile_needed, fills_keeps, leaf_descent, non_constant_needed, none_non_constant}
 use Rattle.vdb_tree.proofs.tree.TreeOf.prune_leaf.Goals as goal
 

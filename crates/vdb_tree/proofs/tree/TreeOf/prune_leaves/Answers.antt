@@ -1,6 +1,4 @@
-use Rattle.std.proofs.Common.{◌≤◌, ◌∙◌, ℕ, arith}
-use Rattle.vdb_coord.specs.declared.Level.TheVariants.{Leaf, Lower}
-use Rattle.vdb_tree.specs.Layout.{bits_of}
+use Rattle.vdb_tree.proofs.Common.{◌≤◌, ◌∙◌, ℕ, arith, Leaf, Lower, bits_of}
 use Rattle.vdb_tree.proofs.Passes.{passes_join, passes_none, root_entry_same, upper_entry_same, uppers_same, uppers_trans}
 use Rattle.vdb_tree.proofs.tree.TreeOf.prune_leaves.Goals as goal
 

@@ -1,8 +1,4 @@
-use Rattle.std.proofs.Common.{◌≤◌, ℕ, arith, refl, ◌∙◌}
-use Rattle.vdb_coord.specs.declared.Level.TheVariants.{Leaf, Lower}
-use Rattle.vdb_coord.proofs.Nesting.{lower_from_leaf}
-use Rattle.vdb_coord.proofs.Positions.{offset_below}
-use Rattle.vdb_tree.specs.Layout.{bits_of}
+use Rattle.vdb_tree.proofs.Common.{◌≤◌, ℕ, arith, refl, ◌∙◌, Leaf, Lower, lower_from_leaf, offset_below, bits_of}
 use Rattle.vdb_tree.proofs.Passes.{block_of_tile_needed, descent_by, descent_trans, fills_keeps, keeps_trans, non_constant_needed, none_non_constant, root_entry_same, tile_needed, tiles_constant, tiles_of_constant}
 use Rattle.vdb_tree.proofs.tree.TreeOf.prune_lower.Goals as goal
 

@@ -1,6 +1,4 @@
-use Rattle.std.proofs.Common.{◌≤◌, ◌∙◌, ℕ, arith, refl}
-use Rattle.vdb_coord.specs.declared.Level.TheVariants.{Lower, Upper}
-use Rattle.vdb_tree.specs.Layout.{bits_of}
+use Rattle.vdb_tree.proofs.Common.{◌≤◌, ◌∙◌, ℕ, arith, refl, Lower, Upper, bits_of}
 use Rattle.vdb_tree.proofs.Passes.{passes_join, passes_none, root_entry_same}
 use Rattle.vdb_tree.proofs.tree.TreeOf.prune_lowers.Goals as goal
 

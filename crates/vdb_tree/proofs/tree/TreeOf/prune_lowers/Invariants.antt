@@ -1,9 +1,4 @@
-use Rattle.std.proofs.Common.{◌≡◌, ◌≤◌, ◌-◌}
-use Rattle.vdb_coord.specs.declared.Level.TheVariants.{Lower, Upper}
-use Rattle.vdb_node.specs.Nodes.{entry_count}
-use Rattle.vdb_node.specs.declared.Entry.TheVariants.{Child}
-use Rattle.vdb_tree.specs.Changes.{PassesTo}
-use Rattle.vdb_tree.specs.Layout.{bits_of, root_entry}
+use Rattle.vdb_tree.proofs.Common.{◌≡◌, ◌≤◌, ◌-◌, Lower, Upper, entry_count, Child, PassesTo, bits_of, root_entry}
 use Rattle.vdb_tree.proofs.tree.TreeOf.prune_lowers.Given as goal
 
 abbrev pub invariant-loop-next : goal.invariant-loop-next

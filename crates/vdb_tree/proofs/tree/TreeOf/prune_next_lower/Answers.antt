@@ -1,6 +1,4 @@
-use Rattle.vdb_coord.specs.declared.Level.TheVariants.{Lower, Upper}
-use Rattle.vdb_coord.proofs.Positions.{entries_is}
-use Rattle.vdb_tree.specs.Layout.{bits_of}
+use Rattle.vdb_tree.proofs.Common.{Lower, Upper, entries_is, bits_of}
 use Rattle.vdb_tree.proofs.Clears.{after}
 use Rattle.vdb_tree.proofs.Passes.{passes_end, passes_step}
 use Rattle.vdb_tree.proofs.tree.TreeOf.prune_next_lower.Goals as goal

@@ -1,7 +1,4 @@
-use Rattle.std.proofs.Common.{subst}
-use Rattle.vdb_coord.specs.declared.Coord.{Coord}
-use Rattle.vdb_tree.specs.Changes.{PrunesRoot}
-use Rattle.vdb_tree.specs.Layout.{bits_of}
+use Rattle.vdb_tree.proofs.Common.{subst, Coord, PrunesRoot, bits_of}
 use Rattle.vdb_tree.proofs.RootSweeps.{prunes_root}
 use Rattle.vdb_tree.proofs.tree.TreeOf.prune_next_root.Goals as goal
 

@@ -1,8 +1,4 @@
-use Rattle.std.proofs.Common.{◌≤◌, ℕ, arith, refl, ◌∙◌}
-use Rattle.vdb_coord.specs.declared.Level.TheVariants.{Leaf, Lower, Upper}
-use Rattle.vdb_coord.proofs.Nesting.{upper_from_lower}
-use Rattle.vdb_coord.proofs.Positions.{offset_below}
-use Rattle.vdb_tree.specs.Layout.{bits_of, root_at}
+use Rattle.vdb_tree.proofs.Common.{◌≤◌, ℕ, arith, refl, ◌∙◌, Leaf, Lower, Upper, upper_from_lower, offset_below, bits_of, root_at}
 use Rattle.vdb_tree.proofs.Passes.{descent_by, descent_trans, fills_keeps, keeps_trans, non_constant_needed, none_non_constant, tile_needed, tiles_constant, tiles_of_constant}
 use Rattle.vdb_tree.proofs.Splits.{root_turns}
 use Rattle.vdb_tree.proofs.RootSweeps.{other_key}

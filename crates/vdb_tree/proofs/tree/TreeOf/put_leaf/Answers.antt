@@ -1,7 +1,4 @@
-use Rattle.std.proofs.Common.{◌∙◌, ap, sym}
-use Rattle.vdb_tree.specs.Changes.{Keeps}
-use Rattle.vdb_tree.specs.Layout.{bits_of, lower_entry}
-use Rattle.vdb_tree.specs.Leaves.{with_leaf}
+use Rattle.vdb_tree.proofs.Common.{◌∙◌, ap, sym, Keeps, bits_of, lower_entry, with_leaf}
 use Rattle.vdb_tree.proofs.Equations.{keeps_field}
 use Rattle.vdb_tree.proofs.Levels.{tile_no_child}
 use Rattle.vdb_tree.proofs.Needed.{child_of}

@@ -1,7 +1,4 @@
-use Rattle.std.proofs.Common.{subst, sym, ◌∙◌}
-use Rattle.std.specs.Prelude.{IsSome}
-use Rattle.vdb_coord.specs.declared.Coord.{Coord}
-use Rattle.vdb_tree.specs.Layout.{bits_of, root_at}
+use Rattle.vdb_tree.proofs.Common.{subst, sym, ◌∙◌, IsSome, Coord, bits_of, root_at}
 use Rattle.vdb_tree.proofs.KeysPast.{fewer_past}
 use Rattle.vdb_tree.proofs.Refining.{refined_from, refines_twice, roots_end, roots_next, roots_none}
 use Rattle.vdb_tree.proofs.tree.TreeOf.refine.Goals as goal

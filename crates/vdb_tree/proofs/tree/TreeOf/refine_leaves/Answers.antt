@@ -1,7 +1,4 @@
-use Rattle.std.proofs.Common.{◌≤◌, ◌∙◌, ℕ, arith, sym}
-use Rattle.vdb_coord.specs.declared.Level.TheVariants.{Leaf, Lower}
-use Rattle.vdb_coord.proofs.Positions.{entries_is}
-use Rattle.vdb_tree.specs.Layout.{bits_of}
+use Rattle.vdb_tree.proofs.Common.{◌≤◌, ◌∙◌, ℕ, arith, sym, Leaf, Lower, entries_is, bits_of}
 use Rattle.vdb_tree.proofs.Clears.{after}
 use Rattle.vdb_tree.proofs.Descents.{lower_by_block}
 use Rattle.vdb_tree.proofs.Passes.{upper_entry_same, uppers_same, uppers_trans}

@@ -1,9 +1,4 @@
-use Rattle.std.proofs.Common.{◌≡◌, ◌≤◌, ◌-◌}
-use Rattle.vdb_coord.specs.declared.Level.TheVariants.{Leaf, Lower}
-use Rattle.vdb_node.specs.Nodes.{entry_count}
-use Rattle.vdb_node.specs.declared.Entry.TheVariants.{Child}
-use Rattle.vdb_tree.specs.Changes.{KeepsUppers}
-use Rattle.vdb_tree.specs.Layout.{bits_of, upper_entry}
+use Rattle.vdb_tree.proofs.Common.{◌≡◌, ◌≤◌, ◌-◌, Leaf, Lower, entry_count, Child, KeepsUppers, bits_of, upper_entry}
 use Rattle.vdb_tree.proofs.Refining.{RefinesTo}
 use Rattle.vdb_tree.proofs.tree.TreeOf.refine_leaves.Given as goal
 

@@ -1,7 +1,4 @@
-use Rattle.std.proofs.Common.{◌∙◌, Option, subst, ℕ}
-use Rattle.vdb_coord.specs.declared.Level.TheVariants.{Lower}
-use Rattle.vdb_tree.specs.Layout.{bits_of}
-use Rattle.vdb_tree.specs.internal.Refining.{IsNodeOrMade}
+use Rattle.vdb_tree.proofs.Common.{◌∙◌, Option, subst, ℕ, Lower, bits_of, IsNodeOrMade}
 use Rattle.vdb_tree.proofs.Descents.{upper_by_block}
 use Rattle.vdb_tree.proofs.Passes.{upper_entry_same}
 use Rattle.vdb_tree.proofs.Refining.{refined_child, refined_made, refined_under, refines_node, refines_twice}

@@ -1,7 +1,4 @@
-use Rattle.std.proofs.Common.{◌≤◌, ◌∙◌, ℕ, arith, refl}
-use Rattle.vdb_coord.specs.declared.Level.TheVariants.{Lower, Upper}
-use Rattle.vdb_coord.proofs.Positions.{entries_is}
-use Rattle.vdb_tree.specs.Layout.{bits_of}
+use Rattle.vdb_tree.proofs.Common.{◌≤◌, ◌∙◌, ℕ, arith, refl, Lower, Upper, entries_is, bits_of}
 use Rattle.vdb_tree.proofs.Clears.{after}
 use Rattle.vdb_tree.proofs.Passes.{root_entry_same}
 use Rattle.vdb_tree.proofs.Refining.{nearer, refines_twice, to_end, to_next, to_none}

@@ -1,8 +1,4 @@
-use Rattle.std.proofs.Common.{◌≡◌, ◌≤◌, ◌-◌}
-use Rattle.vdb_coord.specs.declared.Level.TheVariants.{Lower, Upper}
-use Rattle.vdb_node.specs.Nodes.{entry_count}
-use Rattle.vdb_node.specs.declared.Entry.TheVariants.{Child}
-use Rattle.vdb_tree.specs.Layout.{bits_of, root_entry}
+use Rattle.vdb_tree.proofs.Common.{◌≡◌, ◌≤◌, ◌-◌, Lower, Upper, entry_count, Child, bits_of, root_entry}
 use Rattle.vdb_tree.proofs.Refining.{RefinesTo}
 use Rattle.vdb_tree.proofs.tree.TreeOf.refine_lowers.Given as goal
 

@@ -1,9 +1,4 @@
-use Rattle.std.proofs.Common.{rules, ◌<◌, IsTrue, arith, subst}
-use Rattle.std.specs.Prelude.{◌↔◌}
-use Rattle.vdb_coord.specs.declared.Level.TheVariants.{Upper}
-use Rattle.vdb_tree.specs.Changes.{IsConstantBlock}
-use Rattle.vdb_tree.specs.Layout.{Layout, bits_of, background_cell}
-use Rattle.vdb_tree.specs.Sound.{IsSound}
+use Rattle.vdb_tree.proofs.Common.{rules, ◌<◌, arith, subst, bits_of, IsSound}
 use Rattle.vdb_tree.proofs.KeysPast.{fewer_past}
 use Rattle.vdb_tree.proofs.RootCounts.{count_within, counted_end, counted_start, next_background, next_non_background}
 use Rattle.vdb_tree.proofs.Uniform.{exact_by}
@@ -26,7 +21,7 @@ loop-key-preserved-then-root_block_is g c =
     let itself = g.met.V.Eq.laws.refl in
     let bits = bits_of g.row.U g.row.L g.row.F in
     let t = c.args.self.now in
-    let test = subst (λ (s : Layout g.row.V.Denot). IsTrue c.root_block_is.result ↔ IsConstantBlock bits Upper t c.key_corner.result (background_cell s)) c.self.view_is c.root_block_is.ensures in
+    let test = rw c.background_cell-background_cell.ensures at c.root_block_is.ensures in
     next_background g.V.PartialEq.eq exact itself bits c.self.invariant.0.bits t c.loop-key.passed c.loop-key.count c.loop-key.invariant c.in-Some.key c.in-Some.ensures.least
     c.key_corner.result c.key_corner.ensures.number c.key_corner.ensures.inside c.root_block_is.result test c.if-root_block_is.true
 
@@ -50,7 +45,7 @@ loop-key-preserved g c =
     let itself = g.met.V.Eq.laws.refl in
     let bits = bits_of g.row.U g.row.L g.row.F in
     let t = c.args.self.now in
-    let test = subst (λ (s : Layout g.row.V.Denot). IsTrue c.root_block_is.result ↔ IsConstantBlock bits Upper t c.key_corner.result (background_cell s)) c.self.view_is c.root_block_is.ensures in
+    let test = rw c.background_cell-background_cell.ensures at c.root_block_is.ensures in
     next_non_background g.V.PartialEq.eq exact itself bits c.self.invariant.0.bits t c.loop-key.passed c.loop-key.count c.loop-key.invariant c.in-Some.key c.in-Some.ensures.least
     c.key_corner.result c.key_corner.ensures.number c.key_corner.ensures.inside c.root_block_is.result test (c.in-Some.ensures.inside c.in-Some.key c.in-Some.ensures.least.0) c.if-root_block_is.false
 

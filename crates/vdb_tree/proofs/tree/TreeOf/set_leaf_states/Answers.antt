@@ -1,6 +1,4 @@
-use Rattle.std.proofs.Common.{◌*◌, ◌+◌, ◌∙◌, ap, arith, refl, sym}
-use Rattle.vdb_node.specs.declared.Entry.TheVariants.{Child}
-use Rattle.vdb_node.proofs.Sizes.{up_le}
+use Rattle.vdb_tree.proofs.Common.{◌*◌, ◌+◌, ◌∙◌, ap, arith, refl, sym, Child, up_le}
 use Rattle.vdb_tree.proofs.LeafWrites.{elsewhere, leaf_sound, states_alone, states_field, states_here, whole_after}
 use Rattle.vdb_tree.proofs.Sizes.{leaf_small}
 use Rattle.vdb_tree.proofs.SweptTables.{not_known}

@@ -1,6 +1,4 @@
-use Rattle.std.proofs.Common.{◌∙◌}
-use Rattle.vdb_coord.specs.declared.Level.TheVariants.{Lower}
-use Rattle.vdb_tree.specs.Layout.{bits_of}
+use Rattle.vdb_tree.proofs.Common.{◌∙◌, Lower, bits_of}
 use Rattle.vdb_tree.proofs.Ruled.{idle_block, lower_tile_block, refined_block}
 use Rattle.vdb_tree.proofs.tree.TreeOf.set_lower_block.Goals as goal
 

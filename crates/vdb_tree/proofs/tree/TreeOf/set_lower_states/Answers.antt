@@ -1,5 +1,4 @@
-use Rattle.std.proofs.Common.{◌<◌, ◌≤◌, ◌∙◌, ℕ, arith}
-use Rattle.vdb_tree.specs.Layout.{bits_of}
+use Rattle.vdb_tree.proofs.Common.{◌<◌, ◌≤◌, ◌∙◌, ℕ, arith, bits_of}
 use Rattle.vdb_tree.proofs.Passes.{upper_entry_same, uppers_same, uppers_trans}
 use Rattle.vdb_tree.proofs.StateRuns.{refined_kept, run_all, run_join, run_none}
 use Rattle.vdb_tree.proofs.tree.TreeOf.set_lower_states.Goals as goal

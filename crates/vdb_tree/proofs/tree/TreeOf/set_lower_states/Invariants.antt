@@ -1,11 +1,4 @@
-use Rattle.std.proofs.Common.{◌≡◌, ◌≤◌, ◌-◌}
-use Rattle.vdb_coord.specs.Blocks.{entries}
-use Rattle.vdb_coord.specs.declared.Level.TheVariants.{Lower}
-use Rattle.vdb_node.specs.declared.Entry.TheVariants.{Child}
-use Rattle.vdb_tree.specs.Changes.{KeepsUppers}
-use Rattle.vdb_tree.specs.Layout.{bits_of, upper_entry}
-use Rattle.vdb_tree.specs.internal.Pairing.{IsRefinedFor}
-use Rattle.vdb_tree.specs.internal.StateRuns.{SetsRun}
+use Rattle.vdb_tree.proofs.Common.{◌≡◌, ◌≤◌, ◌-◌, entries, Lower, Child, KeepsUppers, bits_of, upper_entry, IsRefinedFor, SetsRun}
 use Rattle.vdb_tree.proofs.tree.TreeOf.set_lower_states.Given as goal
 
 abbrev pub invariant-loop-next : goal.invariant-loop-next

@@ -1,8 +1,4 @@
-use Rattle.std.proofs.Common.{subst}
-use Rattle.vdb_coord.specs.declared.Coord.{Coord}
-use Rattle.vdb_coord.specs.declared.Level.TheVariants.{Upper}
-use Rattle.vdb_tree.specs.Layout.{bits_of}
-use Rattle.vdb_tree.specs.internal.Ruled.{SetsRoot}
+use Rattle.vdb_tree.proofs.Common.{subst, Coord, Upper, bits_of, SetsRoot}
 use Rattle.vdb_tree.proofs.Ruled.{block_within}
 use Rattle.vdb_tree.proofs.tree.TreeOf.set_next_root.Goals as goal
 

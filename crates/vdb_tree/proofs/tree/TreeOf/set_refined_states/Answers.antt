@@ -1,6 +1,4 @@
-use Rattle.std.proofs.Common.{◌≡◌, refl, subst, sym}
-use Rattle.vdb_tree.specs.Field.{ruled}
-use Rattle.vdb_tree.specs.Layout.{Layout, bits_of, field_of}
+use Rattle.vdb_tree.proofs.Common.{◌≡◌, refl, subst, sym, ruled, Layout, bits_of, field_of}
 use Rattle.vdb_tree.proofs.KeysPast.{fewer_past}
 use Rattle.vdb_tree.proofs.Ruled.{next_at_first, roots_end, roots_next, roots_none}
 use Rattle.vdb_tree.proofs.tree.TreeOf.set_refined_states.Goals as goal

@@ -1,5 +1,4 @@
-use Rattle.std.proofs.Common.{sym, ◌∙◌}
-use Rattle.vdb_tree.specs.Layout.{bits_of}
+use Rattle.vdb_tree.proofs.Common.{sym, ◌∙◌, bits_of}
 use Rattle.vdb_tree.proofs.StateRuns.{acting_at, idle_at, idle_settled, leaf_filled}
 use Rattle.vdb_tree.proofs.tree.TreeOf.set_states_by_tile.Goals as goal
 

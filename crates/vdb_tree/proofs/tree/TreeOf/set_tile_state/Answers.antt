@@ -1,5 +1,4 @@
-use Rattle.std.proofs.Common.{ap, sym, ◌∙◌, Bool}
-use Rattle.vdb_tree.specs.Layout.{bits_of}
+use Rattle.vdb_tree.proofs.Common.{ap, sym, ◌∙◌, Bool, bits_of}
 use Rattle.vdb_tree.proofs.StateRuns.{acting_at, idle_at, idle_settled, refined_settled, tile_set}
 use Rattle.vdb_tree.proofs.tree.TreeOf.set_tile_state.Goals as goal
 

@@ -1,8 +1,4 @@
-use Rattle.std.proofs.Common.{◌≤◌, ◌∙◌, ◌<◌, ℕ, arith, refl}
-use Rattle.vdb_coord.specs.declared.Level.TheVariants.{Upper}
-use Rattle.vdb_coord.proofs.Positions.{entries_is}
-use Rattle.vdb_tree.specs.Layout.{bits_of}
-use Rattle.vdb_tree.specs.internal.Ruled.{IsAmong}
+use Rattle.vdb_tree.proofs.Common.{◌≤◌, ◌∙◌, ◌<◌, ℕ, arith, refl, Upper, entries_is, bits_of, IsAmong}
 use Rattle.vdb_tree.proofs.Passes.{root_entry_same}
 use Rattle.vdb_tree.proofs.Ruled.{refined_after, sets_last, sets_none, sets_on}
 use Rattle.vdb_tree.proofs.tree.TreeOf.set_upper_states.Goals as goal

@@ -1,10 +1,4 @@
-use Rattle.std.proofs.Common.{◌≡◌, ◌≤◌, ◌-◌}
-use Rattle.vdb_coord.specs.declared.Level.TheVariants.{Upper}
-use Rattle.vdb_node.specs.Nodes.{entry_count}
-use Rattle.vdb_node.specs.declared.Entry.TheVariants.{Child}
-use Rattle.vdb_tree.specs.Layout.{bits_of, root_entry}
-use Rattle.vdb_tree.specs.internal.Pairing.{IsRefinedFor}
-use Rattle.vdb_tree.specs.internal.Ruled.{IsAmong, SetsWithin}
+use Rattle.vdb_tree.proofs.Common.{◌≡◌, ◌≤◌, ◌-◌, Upper, entry_count, Child, bits_of, root_entry, IsRefinedFor, IsAmong, SetsWithin}
 use Rattle.vdb_tree.proofs.tree.TreeOf.set_upper_states.Given as goal
 
 abbrev pub invariant-loop-next : goal.invariant-loop-next

@@ -1,5 +1,4 @@
-use Rattle.std.proofs.Common.{sym, ap, ◌∙◌}
-use Rattle.vdb_node.specs.declared.Entry.TheVariants.{Child}
+use Rattle.vdb_tree.proofs.Common.{sym, ap, ◌∙◌, Child}
 use Rattle.vdb_tree.proofs.Pools.{node_puts}
 use Rattle.vdb_tree.proofs.Tiled.{upper_tile_sound, upper_tile_fills, upper_tile_uppers, upper_tile_lowers}
 use Rattle.vdb_tree.proofs.SweptTables.{not_known}

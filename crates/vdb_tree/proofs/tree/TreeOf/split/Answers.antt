@@ -1,7 +1,5 @@
-use Rattle.std.proofs.Common.{◌∙◌}
-use Rattle.vdb_tree.specs.Layout.{bits_of, background_cell}
+use Rattle.vdb_tree.proofs.Common.{◌∙◌, bits_of, background_cell, IsCut}
 use Rattle.vdb_tree.proofs.Equations.{keeps_field}
-use Rattle.vdb_tree.specs.Nodes.{IsCut}
 use Rattle.vdb_tree.proofs.MadeNodes.{keys_in_none, keys_in_twice, keys_twice, makes_twice, no_node_makes}
 use Rattle.vdb_tree.proofs.Splits.{adds_twice}
 use Rattle.vdb_tree.proofs.SplitTiles.{box_stays, on_ok, split_whole}

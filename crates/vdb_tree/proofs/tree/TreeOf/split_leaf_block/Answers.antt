@@ -1,7 +1,4 @@
-use Rattle.std.proofs.Common.{◌≢◌, ◌∙◌, ap, sym}
-use Rattle.vdb_coord.specs.declared.Level.TheVariants.{Leaf}
-use Rattle.vdb_node.specs.declared.Entry.TheVariants.{Tile}
-use Rattle.vdb_tree.specs.Layout.{bits_of}
+use Rattle.vdb_tree.proofs.Common.{◌≢◌, ◌∙◌, ap, sym, Leaf, Tile, bits_of}
 use Rattle.vdb_tree.proofs.Descents.{lower_by_block}
 use Rattle.vdb_tree.proofs.Blocks.{never}
 use Rattle.vdb_tree.proofs.MadeNodes.{cut_made}

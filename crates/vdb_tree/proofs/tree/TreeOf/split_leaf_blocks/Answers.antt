@@ -1,9 +1,5 @@
-use Rattle.std.proofs.Common.{◌∙◌}
-use Rattle.vdb_coord.specs.declared.Level.TheVariants.{Leaf}
-use Rattle.vdb_coord.proofs.Boxes.{both}
-use Rattle.vdb_tree.specs.Layout.{bits_of}
+use Rattle.vdb_tree.proofs.Common.{◌∙◌, Leaf, both, bits_of, IsCut}
 use Rattle.vdb_tree.proofs.Descents.{upper_by_block}
-use Rattle.vdb_tree.specs.Nodes.{IsCut}
 use Rattle.vdb_tree.proofs.MadeNodes.{makes_twice}
 use Rattle.vdb_tree.proofs.Passes.{upper_entry_same, uppers_same, uppers_trans}
 use Rattle.vdb_tree.proofs.SplitTiles.{SplitsTo, split_all, split_next, split_none}

@@ -1,9 +1,4 @@
-use Rattle.std.proofs.Common.{◌≡◌}
-use Rattle.vdb_coord.specs.Walk.{coordinates_after}
-use Rattle.vdb_coord.specs.declared.Level.TheVariants.{Leaf}
-use Rattle.vdb_node.specs.declared.Entry.TheVariants.{Child}
-use Rattle.vdb_tree.specs.Changes.{KeepsUppers}
-use Rattle.vdb_tree.specs.Layout.{bits_of, upper_entry}
+use Rattle.vdb_tree.proofs.Common.{◌≡◌, coordinates_after, Leaf, Child, KeepsUppers, bits_of, upper_entry}
 use Rattle.vdb_tree.proofs.SplitTiles.{SplitsTo}
 use Rattle.vdb_tree.proofs.tree.TreeOf.split_leaf_blocks.Given as goal
 

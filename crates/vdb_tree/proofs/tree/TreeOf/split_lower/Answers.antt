@@ -1,6 +1,4 @@
-use Rattle.std.proofs.Common.{refl, sym, ap, ◌∙◌}
-use Rattle.vdb_coord.specs.declared.Level.TheVariants.{Leaf}
-use Rattle.vdb_node.specs.declared.Entry.TheVariants.{Child}
+use Rattle.vdb_tree.proofs.Common.{refl, sym, ap, ◌∙◌, Leaf, Child}
 use Rattle.vdb_tree.proofs.Pools.{node_puts}
 use Rattle.vdb_tree.proofs.Splits.{capacity_adds, capacity_but, capacity_keeps, capacity_sound, with_leaf_at, with_leaf_but, with_leaf_keeps, with_leaf_adds, with_leaf_sound}
 use Rattle.vdb_tree.proofs.SweptTables.{kept_swept}

@@ -1,9 +1,5 @@
-use Rattle.std.proofs.Common.{◌∙◌, refl}
-use Rattle.vdb_coord.specs.declared.Level.TheVariants.{Lower}
-use Rattle.vdb_coord.proofs.Boxes.{both}
-use Rattle.vdb_tree.specs.Layout.{bits_of}
+use Rattle.vdb_tree.proofs.Common.{◌∙◌, refl, Lower, both, bits_of, IsCut}
 use Rattle.vdb_tree.proofs.Descents.{root_by_block}
-use Rattle.vdb_tree.specs.Nodes.{IsCut}
 use Rattle.vdb_tree.proofs.MadeNodes.{makes_twice}
 use Rattle.vdb_tree.proofs.Passes.{root_entry_same}
 use Rattle.vdb_tree.proofs.SplitTiles.{SplitsTo, split_all, split_next, split_none}

@@ -1,9 +1,4 @@
-use Rattle.std.proofs.Common.{refl}
-use Rattle.std.specs.Prelude.{Some}
-use Rattle.vdb_coord.specs.Blocks.{key}
-use Rattle.vdb_coord.specs.declared.Level.TheVariants.{Upper}
-use Rattle.vdb_node.specs.declared.Entry.TheVariants.{Child}
-use Rattle.vdb_tree.specs.Layout.{bits_of}
+use Rattle.vdb_tree.proofs.Common.{refl, Some, key, Upper, Child, bits_of}
 use Rattle.vdb_tree.proofs.Splits.{capacity_adds, capacity_but, capacity_keeps, capacity_sound, with_upper_at, with_upper_but, with_upper_keeps, with_upper_adds, with_upper_sound}
 use Rattle.vdb_tree.proofs.RootSweeps.{other_key}
 use Rattle.vdb_tree.proofs.SweptTables.{kept_swept, updated_held}

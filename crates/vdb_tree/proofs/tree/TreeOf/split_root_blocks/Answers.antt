@@ -1,14 +1,5 @@
-use Rattle.std.proofs.Common.{◌≡◌, ◌≢◌, IsTrue, Some, None, Option, subst}
-use Rattle.std.specs.Prelude.{IfSome}
-use Rattle.vdb_coord.specs.Blocks.{key}
-use Rattle.vdb_coord.specs.Space.{is_inside}
-use Rattle.vdb_coord.specs.declared.Coord.{Coord}
-use Rattle.vdb_coord.specs.declared.Level.TheVariants.{Upper}
-use Rattle.vdb_tree.specs.Layout.{bits_of, root_at}
-use Rattle.vdb_tree.specs.SplitBox.{IsSplitTo}
-use Rattle.vdb_tree.specs.Capacity.{IsNextMet}
+use Rattle.vdb_tree.proofs.Common.{◌≡◌, ◌≢◌, IsTrue, Some, None, Option, subst, IfSome, key, is_inside, Coord, Upper, bits_of, root_at, IsSplitTo, IsNextMet, IsCut}
 use Rattle.vdb_tree.proofs.KeysPast.{fewer_beyond}
-use Rattle.vdb_tree.specs.Nodes.{IsCut}
 use Rattle.vdb_tree.proofs.MadeNodes.{keys_twice, makes_twice}
 use Rattle.vdb_tree.proofs.SplitTiles.{next_at_first, roots_end, roots_next, roots_none}
 use Rattle.vdb_tree.proofs.Splits.{adds_twice}

@@ -1,6 +1,4 @@
-use Rattle.std.proofs.Common.{refl, sym, ap, ◌∙◌}
-use Rattle.vdb_coord.specs.declared.Level.TheVariants.{Lower}
-use Rattle.vdb_node.specs.declared.Entry.TheVariants.{Child}
+use Rattle.vdb_tree.proofs.Common.{refl, sym, ap, ◌∙◌, Lower, Child}
 use Rattle.vdb_tree.proofs.Pools.{node_puts}
 use Rattle.vdb_tree.proofs.Splits.{capacity_adds, capacity_but, capacity_keeps, capacity_sound, with_lower_at, with_lower_but, with_lower_keeps, with_lower_adds, with_lower_sound}
 use Rattle.vdb_tree.proofs.SweptTables.{kept_swept}

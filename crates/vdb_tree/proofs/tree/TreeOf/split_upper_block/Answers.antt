@@ -1,9 +1,4 @@
-use Rattle.std.proofs.Common.{◌≢◌, ◌∙◌, ap, refl, subst, sym}
-use Rattle.vdb_coord.specs.Blocks.{key}
-use Rattle.vdb_coord.specs.declared.Level.TheVariants.{Upper}
-use Rattle.vdb_node.specs.declared.Entry.TheVariants.{Tile}
-use Rattle.vdb_tree.specs.Layout.{Layout, bits_of, root_at}
-use Rattle.vdb_tree.specs.Nodes.{IsCut, MakesOnly}
+use Rattle.vdb_tree.proofs.Common.{◌≢◌, ◌∙◌, ap, refl, subst, sym, key, Upper, Tile, Layout, bits_of, root_at, IsCut, MakesOnly}
 use Rattle.vdb_tree.proofs.Blocks.{never}
 use Rattle.vdb_tree.proofs.Covered.{covered_by_block}
 use Rattle.vdb_tree.proofs.Descents.{root_by_block}

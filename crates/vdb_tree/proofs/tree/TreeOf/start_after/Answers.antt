@@ -1,7 +1,4 @@
-use Rattle.std.proofs.Common.{rules}
-use Rattle.vdb_coord.proofs.Meeting.{fits_everywhere}
-use Rattle.vdb_tree.specs.Layout.{bits_of}
-use Rattle.vdb_tree.specs.Parts.{end_level}
+use Rattle.vdb_tree.proofs.Common.{rules, fits_everywhere, bits_of, end_level}
 use Rattle.vdb_tree.proofs.PartWalks.{start_nearer}
 use Rattle.vdb_tree.proofs.tree.TreeOf.start_after.Goals as goal
 

@@ -1,7 +1,5 @@
-use Rattle.std.proofs.Common.{◌∙◌, sym}
-use Rattle.std.specs.Prelude.{Some}
+use Rattle.vdb_tree.proofs.Common.{◌∙◌, sym, Some, bits_of}
 use Rattle.std.specs.Ordering.{int_cmp}
-use Rattle.vdb_tree.specs.Layout.{bits_of}
 use Rattle.vdb_tree.proofs.KeysMet.{comes_past}
 use Rattle.vdb_tree.proofs.KeysPast.{fewer_past}
 use Rattle.vdb_tree.proofs.PartWalks.{found_keys, keys_end, keys_next, keys_start, keys_stop, none_under}

@@ -1,5 +1,4 @@
-use Rattle.std.specs.Prelude.{Some}
-use Rattle.vdb_tree.specs.Layout.{bits_of}
+use Rattle.vdb_tree.proofs.Common.{Some, bits_of}
 use Rattle.vdb_tree.proofs.KeysPast.{keys_past}
 use Rattle.vdb_tree.proofs.PartWalks.{IsKeysPassed}
 use Rattle.vdb_tree.proofs.tree.TreeOf.start_after_key.Given as goal

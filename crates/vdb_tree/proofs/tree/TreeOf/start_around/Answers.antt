@@ -1,7 +1,4 @@
-use Rattle.vdb_coord.specs.declared.Level.TheVariants.{Leaf}
-use Rattle.vdb_coord.proofs.Boxes.{both}
-use Rattle.vdb_coord.proofs.Walk.{min_inside}
-use Rattle.vdb_tree.specs.Layout.{bits_of}
+use Rattle.vdb_tree.proofs.Common.{Leaf, both, min_inside, bits_of}
 use Rattle.vdb_tree.proofs.PartStarts.{before_start, start_of_part}
 use Rattle.vdb_tree.proofs.tree.TreeOf.start_around.Goals as goal
 

@@ -1,6 +1,4 @@
-use Rattle.vdb_coord.specs.declared.Level.TheVariants.{Leaf, Lower}
-use Rattle.vdb_tree.specs.Layout.{bits_of}
-use Rattle.vdb_tree.specs.declared.queries.parts.Skip.TheVariants.{Background, Inactive}
+use Rattle.vdb_tree.proofs.Common.{Leaf, Lower, bits_of, Background, Inactive}
 use Rattle.vdb_tree.proofs.Jumps.{none_left}
 use Rattle.vdb_tree.proofs.tree.TreeOf.start_in_lower_node.Goals as goal
 

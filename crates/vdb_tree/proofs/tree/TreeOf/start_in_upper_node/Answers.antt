@@ -1,6 +1,4 @@
-use Rattle.vdb_coord.specs.declared.Level.TheVariants.{Lower, Upper}
-use Rattle.vdb_tree.specs.Layout.{bits_of}
-use Rattle.vdb_tree.specs.declared.queries.parts.Skip.TheVariants.{Background, Inactive}
+use Rattle.vdb_tree.proofs.Common.{Lower, Upper, bits_of, Background, Inactive}
 use Rattle.vdb_tree.proofs.Jumps.{none_left}
 use Rattle.vdb_tree.proofs.tree.TreeOf.start_in_upper_node.Goals as goal
 

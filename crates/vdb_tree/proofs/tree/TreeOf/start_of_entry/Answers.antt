@@ -1,5 +1,4 @@
-use Rattle.vdb_coord.proofs.Boxes.{both}
-use Rattle.vdb_tree.specs.Layout.{bits_of}
+use Rattle.vdb_tree.proofs.Common.{both, bits_of}
 use Rattle.vdb_tree.proofs.Jumps.{by_part}
 use Rattle.vdb_tree.proofs.tree.TreeOf.start_of_entry.Goals as goal
 

@@ -1,7 +1,4 @@
-use Rattle.std.proofs.Common.{◌<◌, subst}
-use Rattle.std.specs.Prelude.{IfSome}
-use Rattle.vdb_coord.specs.Order.{coordinates_past}
-use Rattle.vdb_coord.specs.declared.Bits.{Bits}
+use Rattle.vdb_tree.proofs.Common.{◌<◌, subst, IfSome, coordinates_past, Bits}
 use Rattle.vdb_tree.proofs.tree.TreeOf.start_past_block.Goals as goal
 
 pub returns-clause-nearer : goal.returns-clause-nearer

@@ -1,5 +1,4 @@
-use Rattle.vdb_tree.specs.Layout.{bits_of}
-use Rattle.vdb_tree.specs.Parts.{end_level}
+use Rattle.vdb_tree.proofs.Common.{bits_of, end_level}
 use Rattle.vdb_tree.proofs.Voxels.{fewer_left, past_done, start_inside}
 use Rattle.vdb_tree.proofs.tree.TreeOf.start_past_inactive.Goals as goal
 

@@ -1,7 +1,4 @@
-use Rattle.std.proofs.Common.{subst}
-use Rattle.vdb_coord.specs.Order.{IsNextCoord}
-use Rattle.vdb_coord.specs.declared.Bits.{Bits}
-use Rattle.vdb_tree.specs.Layout.{bits_of}
+use Rattle.vdb_tree.proofs.Common.{subst, IsNextCoord, Bits, bits_of}
 use Rattle.vdb_tree.proofs.Jumps.{by_box}
 use Rattle.vdb_tree.proofs.tree.TreeOf.start_within.Goals as goal
 

@@ -1,8 +1,4 @@
-use Rattle.std.proofs.Common.{◌≡◌, ◌∙◌, ap, sym}
-use Rattle.std.specs.Prelude.{Some}
-use Rattle.vdb_node.specs.declared.Entry.TheVariants.{Child}
-use Rattle.vdb_pool.specs.Contents.{node_at}
-use Rattle.vdb_tree.specs.Layout.{bits_of}
+use Rattle.vdb_tree.proofs.Common.{◌≡◌, ◌∙◌, ap, sym, Some, Child, node_at, bits_of}
 use Rattle.vdb_tree.proofs.StateRuns.{states_of_leaf}
 use Rattle.vdb_tree.proofs.tree.TreeOf.states_around.Goals as goal
 

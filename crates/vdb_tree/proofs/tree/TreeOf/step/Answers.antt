@@ -1,5 +1,4 @@
-use Rattle.std.proofs.Common.{◌∙◌}
-use Rattle.vdb_tree.specs.Layout.{bits_of}
+use Rattle.vdb_tree.proofs.Common.{◌∙◌, bits_of}
 use Rattle.vdb_tree.proofs.PartWalks.{none_passes, some_yields, step_is}
 use Rattle.vdb_tree.proofs.tree.TreeOf.step.Goals as goal
 

@@ -1,8 +1,4 @@
-use Rattle.std.proofs.Common.{refl, subst, sym}
-use Rattle.vdb_coord.specs.declared.Coord.{Coord}
-use Rattle.vdb_coord.specs.declared.Level.TheVariants.{Upper}
-use Rattle.vdb_tree.specs.Changes.{IsNeededTo, IsNoBackgroundRoot, Keeps}
-use Rattle.vdb_tree.specs.Layout.{Layout, bits_of}
+use Rattle.vdb_tree.proofs.Common.{refl, subst, sym, Coord, Upper, IsNeededTo, IsNoBackgroundRoot, Keeps, Layout, bits_of}
 use Rattle.vdb_tree.proofs.KeysPast.{fewer_past}
 use Rattle.vdb_tree.proofs.RootSweeps.{next_as_before, sweep_end, sweep_next, sweep_none}
 use Rattle.vdb_tree.proofs.tree.TreeOf.sweep.Goals as goal

@@ -1,6 +1,4 @@
-use Rattle.std.proofs.Common.{◌∙◌, subst, sym}
-use Rattle.vdb_tree.specs.Layout.{bits_of}
-use Rattle.vdb_tree.specs.Pairs.{YieldsPair}
+use Rattle.vdb_tree.proofs.Common.{◌∙◌, subst, sym, bits_of, YieldsPair}
 use Rattle.vdb_tree.proofs.PairWalks.{in_one_root}
 use Rattle.vdb_tree.proofs.tree.TreeOf.take_pair.Goals as goal
 

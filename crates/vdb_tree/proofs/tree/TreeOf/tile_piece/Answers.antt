@@ -1,7 +1,4 @@
-use Rattle.std.proofs.Common.{rules}
-use Rattle.vdb_coord.proofs.Meeting.{fits_everywhere}
-use Rattle.vdb_coord.proofs.Nesting.{inside_around}
-use Rattle.vdb_tree.specs.Layout.{bits_of}
+use Rattle.vdb_tree.proofs.Common.{rules, fits_everywhere, inside_around, bits_of}
 use Rattle.vdb_tree.proofs.PieceCells.{tile_field}
 use Rattle.vdb_tree.proofs.tree.TreeOf.tile_piece.Goals as goal
 

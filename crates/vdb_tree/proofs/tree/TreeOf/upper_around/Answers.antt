@@ -1,8 +1,4 @@
-use Rattle.std.proofs.Common.{◌≡◌, ◌∙◌, refl}
-use Rattle.vdb_coord.specs.declared.Coord.{Coord}
-use Rattle.vdb_coord.specs.declared.Level.TheVariants.{Upper}
-use Rattle.vdb_tree.specs.Changes.{AddsNodes, SameDescent}
-use Rattle.vdb_tree.specs.Layout.{bits_of, root_at}
+use Rattle.vdb_tree.proofs.Common.{◌≡◌, ◌∙◌, refl, Coord, Upper, AddsNodes, SameDescent, bits_of, root_at}
 use Rattle.vdb_tree.proofs.MadeNodes.{but_after}
 use Rattle.vdb_tree.proofs.Splits.{adds_itself, adds_twice}
 use Rattle.vdb_tree.proofs.tree.TreeOf.upper_around.Goals as goal

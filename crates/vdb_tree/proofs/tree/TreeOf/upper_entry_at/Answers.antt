@@ -1,8 +1,4 @@
-use Rattle.std.proofs.Common.{◌≡◌, ◌∙◌, ℕ, ap, refl, subst, sym}
-use Rattle.std.specs.Prelude.{slice_index_or}
-use Rattle.vdb_node.specs.declared.Entry.TheVariants.{Tile}
-use Rattle.vdb_pool.specs.Contents.{node_at}
-use Rattle.vdb_tree.specs.Layout.{Layout, bits_of, background_cell}
+use Rattle.vdb_tree.proofs.Common.{◌≡◌, ◌∙◌, ℕ, ap, refl, subst, sym, slice_index_or, Tile, node_at, Layout, bits_of, background_cell}
 use Rattle.vdb_tree.proofs.Descents.{upper_node_entry}
 use Rattle.vdb_tree.proofs.tree.TreeOf.upper_entry_at.Goals as goal
 

@@ -1,7 +1,4 @@
-use Rattle.std.proofs.Common.{◌≤◌, ◌-◌}
-use Rattle.vdb_coord.specs.Blocks.{entries}
-use Rattle.vdb_coord.specs.declared.Level.TheVariants.{Upper}
-use Rattle.vdb_tree.specs.Layout.{bits_of}
+use Rattle.vdb_tree.proofs.Common.{◌≤◌, ◌-◌, entries, Upper, bits_of}
 use Rattle.vdb_tree.proofs.BlockTests.{IsConstantBelow}
 use Rattle.vdb_tree.proofs.tree.TreeOf.upper_is.Given as goal
 

@@ -1,8 +1,4 @@
-use Rattle.std.proofs.Common.{◌≡◌, ◌∙◌, ap, refl, sym}
-use Rattle.vdb_node.specs.declared.Entry.TheVariants.{Child}
-use Rattle.std.specs.Prelude.{Some}
-use Rattle.vdb_pool.specs.Contents.{node_at}
-use Rattle.vdb_tree.specs.Layout.{background_cell}
+use Rattle.vdb_tree.proofs.Common.{◌≡◌, ◌∙◌, ap, refl, sym, Child, Some, node_at, background_cell}
 use Rattle.vdb_tree.proofs.Descents.{leaf_cell}
 use Rattle.vdb_tree.proofs.tree.TreeOf.voxel.Goals as goal
 

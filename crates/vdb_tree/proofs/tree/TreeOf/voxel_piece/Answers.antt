@@ -1,6 +1,4 @@
-use Rattle.std.proofs.Common.{◌∙◌, ap, rules}
-use Rattle.vdb_coord.proofs.Meeting.{fits_everywhere}
-use Rattle.vdb_tree.specs.Layout.{bits_of, cell_at, field_of}
+use Rattle.vdb_tree.proofs.Common.{◌∙◌, ap, rules, fits_everywhere, bits_of, cell_at, field_of}
 use Rattle.vdb_tree.proofs.Fields.{cell_inside}
 use Rattle.vdb_tree.proofs.PieceCells.{only_self}
 use Rattle.vdb_tree.proofs.tree.TreeOf.voxel_piece.Goals as goal

@@ -1,6 +1,4 @@
-use Rattle.std.specs.Prelude.{Some, None}
-use Rattle.vdb_coord.specs.Blocks.{key}
-use Rattle.vdb_tree.specs.Layout.{bits_of}
+use Rattle.vdb_tree.proofs.Common.{Some, None, key, bits_of}
 use Rattle.vdb_tree.proofs.MadeNodes.{active_entered, active_made, keys_but}
 use Rattle.vdb_tree.proofs.Needed.{is_child_from}
 use Rattle.vdb_tree.proofs.Voxels.{fewer_left, past_leaf}

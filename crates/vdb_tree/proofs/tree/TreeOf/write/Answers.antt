@@ -1,9 +1,4 @@
-use Rattle.std.proofs.Common.{◌≤◌, ◌∙◌, ap, arith, inl, inr, rules, subst, sym}
-use Rattle.vdb_coord.proofs.Meeting.{fits_everywhere}
-use Rattle.vdb_tree.specs.Field.{Field, write, written}
-use Rattle.vdb_tree.specs.Layout.{bits_of, field_of}
-use Rattle.vdb_tree.specs.Paths.{is_child}
-use Rattle.vdb_tree.specs.ConstantBlocks.{roots}
+use Rattle.vdb_tree.proofs.Common.{◌≤◌, ◌∙◌, ap, arith, inl, inr, rules, subst, sym, fits_everywhere, Field, write, written, bits_of, field_of, is_child, roots}
 use Rattle.vdb_tree.proofs.Blocks.{never}
 use Rattle.vdb_tree.proofs.Equations.{changes_field}
 use Rattle.vdb_tree.proofs.MadeNodes.{elsewhere_itself, elsewhere_same}

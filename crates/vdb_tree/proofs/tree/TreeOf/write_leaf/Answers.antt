@@ -1,18 +1,4 @@
-use Rattle.std.proofs.Common.{◌≡◌, ◌∙◌, ap, arith, inl, inr, refl, rules, subst, sym, Err, IsTrue}
-use Rattle.std.specs.Prelude.{None, Option, Some}
-use Rattle.std.proofs.lemmas.Grind.{common_steps}
-use Rattle.vdb_coord.specs.Entries.{AreBits}
-use Rattle.vdb_coord.specs.declared.Bits.{Bits}
-use Rattle.vdb_coord.proofs.Meeting.{fits_everywhere}
-use Rattle.vdb_node.specs.Leaf.{IsConstantLeaf}
-use Rattle.vdb_node.specs.Nodes.{entry_count}
-use Rattle.vdb_value.specs.declared.Cell.{Cell}
-use Rattle.vdb_tree.specs.Field.{Field}
-use Rattle.vdb_tree.specs.Layout.{Layout, bits_of, field_of, lower_entry}
-use Rattle.vdb_tree.specs.Leaves.{with_leaf}
-use Rattle.vdb_tree.specs.Outcome.{IsOutcome}
-use Rattle.vdb_tree.specs.Paths.{in_leaf}
-use Rattle.vdb_tree.specs.declared.refusal.TreeRefusal.TheVariants.{Memory, RootLimit}
+use Rattle.vdb_tree.proofs.Common.{◌≡◌, ◌∙◌, ap, arith, inl, inr, refl, rules, subst, sym, Err, IsTrue, None, Option, Some, common_steps, AreBits, Bits, fits_everywhere, IsConstantLeaf, entry_count, Cell, Field, Layout, bits_of, field_of, lower_entry, with_leaf, IsOutcome, in_leaf, Memory, RootLimit}
 use Rattle.vdb_tree.proofs.Blocks.{never}
 use Rattle.vdb_tree.proofs.Equations.{keeps_field}
 use Rattle.vdb_tree.proofs.Levels.{tile_or_child}

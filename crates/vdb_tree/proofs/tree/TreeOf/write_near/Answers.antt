@@ -1,8 +1,4 @@
-use Rattle.std.proofs.Common.{rules, subst, sym}
-use Rattle.vdb_coord.proofs.Meeting.{fits_everywhere}
-use Rattle.vdb_tree.specs.Field.{written}
-use Rattle.vdb_tree.specs.Layout.{bits_of, cell_at}
-use Rattle.vdb_tree.specs.Leaves.{IsVoxelWritten}
+use Rattle.vdb_tree.proofs.Common.{rules, subst, sym, fits_everywhere, written, bits_of, cell_at, IsVoxelWritten}
 use Rattle.vdb_tree.proofs.Equations.{changes_field}
 use Rattle.vdb_tree.proofs.Fields.{cell_inside}
 use Rattle.vdb_tree.proofs.tree.TreeOf.write_near.Goals as goal

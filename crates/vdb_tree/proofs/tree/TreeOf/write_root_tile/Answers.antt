@@ -1,10 +1,4 @@
-use Rattle.std.proofs.Common.{◌≡◌, arith, rules, subst, sym, Err}
-use Rattle.std.proofs.lemmas.Grind.{common_steps}
-use Rattle.vdb_coord.proofs.Meeting.{fits_everywhere}
-use Rattle.vdb_tree.specs.declared.refusal.TreeRefusal.TheVariants.{Memory, RootLimit}
-use Rattle.vdb_tree.specs.Field.{write}
-use Rattle.vdb_tree.specs.Layout.{Layout, bits_of, field_of}
-use Rattle.vdb_tree.specs.Nodes.{KeepsElsewhere}
+use Rattle.vdb_tree.proofs.Common.{◌≡◌, arith, rules, subst, sym, Err, common_steps, fits_everywhere, Memory, RootLimit, write, Layout, bits_of, field_of, KeepsElsewhere}
 use Rattle.vdb_tree.proofs.MadeNodes.{elsewhere_itself, elsewhere_same, elsewhere_twice}
 use Rattle.vdb_tree.proofs.Rooted.{write_altered, write_differs}
 use Rattle.vdb_tree.proofs.Splits.{keeps_twice}

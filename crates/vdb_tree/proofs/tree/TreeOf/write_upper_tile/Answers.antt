@@ -1,9 +1,4 @@
-use Rattle.std.proofs.Common.{◌≡◌, arith, Err}
-use Rattle.std.proofs.lemmas.Grind.{common_steps}
-use Rattle.vdb_tree.specs.declared.refusal.TreeRefusal.TheVariants.{Memory}
-use Rattle.vdb_tree.specs.Field.{write}
-use Rattle.vdb_tree.specs.Layout.{bits_of, field_of}
-use Rattle.vdb_coord.specs.declared.Level.TheVariants.{Leaf, Lower}
+use Rattle.vdb_tree.proofs.Common.{◌≡◌, arith, Err, common_steps, Memory, write, bits_of, field_of, Leaf, Lower}
 use Rattle.vdb_tree.proofs.MadeNodes.{but_elsewhere, elsewhere_same, elsewhere_twice}
 use Rattle.vdb_tree.proofs.Rooted.{write_altered}
 use Rattle.vdb_tree.proofs.Splits.{keeps_twice}

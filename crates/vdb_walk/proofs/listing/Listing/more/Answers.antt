@@ -1,7 +1,4 @@
-use Rattle.std.proofs.Common.{ap, sym}
-use Rattle.vdb_coord.specs.Blocks.{is_past}
-use Rattle.vdb_tree.specs.Layout.{bits_of, field_of}
-use Rattle.vdb_walk.specs.Reports.{active, Listed}
+use Rattle.vdb_walk.proofs.Common.{ap, sym, is_past, bits_of, field_of, active, Listed}
 use Rattle.vdb_walk.proofs.InOrder.{found_left}
 use Rattle.vdb_walk.proofs.listing.Listing.more.Goals as goal
 

@@ -1,8 +1,4 @@
-use Rattle.std.proofs.Common.{◌≡◌, ◌∙◌, ◌∷◌, Some, ℕ, ◌-◌, ap, arith, inl, suc, sym}
-use Rattle.vdb_coord.specs.Blocks.{is_past}
-use Rattle.vdb_coord.specs.Space.{Box}
-use Rattle.vdb_tree.specs.Layout.{bits_of, field_of}
-use Rattle.vdb_walk.specs.Reports.{active, Listed, past}
+use Rattle.vdb_walk.proofs.Common.{◌≡◌, ◌∙◌, ◌∷◌, Some, ℕ, ◌-◌, ap, arith, inl, suc, sym, is_past, Box, bits_of, field_of, active, Listed, past}
 use Rattle.vdb_walk.proofs.InOrder.{none_left, past_step, rises_keys}
 use Rattle.vdb_walk.proofs.listing.Listing.next.Goals as goal
 

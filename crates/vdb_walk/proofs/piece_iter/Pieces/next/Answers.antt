@@ -1,7 +1,4 @@
-use Rattle.std.proofs.Common.{subst}
-use Rattle.std.specs.Prelude.{Some}
-use Rattle.vdb_tree.specs.Layout.{bits_of}
-use Rattle.vdb_walk.specs.Passing.{IsNextPiece, Passage}
+use Rattle.vdb_walk.proofs.Common.{subst, Some, bits_of, IsNextPiece, Passage}
 use Rattle.vdb_walk.proofs.PiecesInTurn.{ends_piece, next_piece}
 use Rattle.vdb_walk.proofs.piece_iter.Pieces.next.Goals as goal
 

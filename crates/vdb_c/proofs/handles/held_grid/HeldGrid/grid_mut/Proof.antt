@@ -1,39 +1,25 @@
 -- `grid_mut` lends what the pointer owns, unless it is null. Assumes `Logic`.
-use Rattle.std.proofs.Common.{◌≡◌, ℕ, List, [], ◌∷◌, ◌++◌, refl, sym, ap, subst, lit<, MutBor}
-use seplogic.Ra.Ura.{Ura}
+use Rattle.vdb_c.proofs.Common.{◌≡◌, ℕ, List, [], ◌∷◌, ◌++◌, refl, sym, ap, subst, lit<, Ura, Val, of_list, full_share, ftrue, fsep, flft, SProp, ent, emp, never, fst∗, WpFn, fact, fact_i, tables, ‵, raw, ◌⊛◌, some, later, given, prop, at_ret, ◌$◌, ◌∵◌, !, qed, by, move, keep, drop, split, split3, join, fsplit, fjoin, fpack, pick, use0, use1, await, rewrite, feq_i, feq_l, learn, Logic, sem, live, agg, sub, whole, stop, fld, lit, of_opd, bin, no_more, and_then, first, blocks, branches, skips, exec, returns, returns_within, enter, alloc_all, pass_all, free_all, look_at, get, sets, env, no, lone, RattleType, owns, Ptr, block_ptr, null_ptr, ptr_val, lies_at, Testable, tests_null, in_a_block, types_at, plain, nothing, Stays, stay_dropped, walk_of, after, Some-of, none_of, proved_at, leaves, box_owns, freeing, owns_boxed, Row}
+use Rattle.std.proofs.Common.{MutBor}
 use mir.Syntax.{named}
 use mir.Raw.{raw as bare}
-use mir.Val.{Val, vptr, of_list}
-use base.Fraction.{full_share}
-use base.Fml.{GName, Fml, ftrue, fsep, flft, fres}
-use base.Logic.{SProp, ent, sep, emp, never, fst∗}
-use prog.Wp.{Env, WpFn}
-use contract.Monad.{fact, fact_i}
-use contract.Running.{tables}
-use types.Kit.{‵, raw, ◌⊛◌, some, later, given, prop, at_ret, ◌$◌, ◌∵◌, !, qed, done, by, move, keep, drop, split, split3, join, fsplit, fsplit3, fjoin, fpack, pick, use0, use1, await, group, regoal, rewrite, feq_i, feq_l, learn}
-use types.Logic.{Logic, sem}
-use types.Match.{live}
-use types.Part.{agg, look_in, sub, whole}
-use types.Run.{stop, fld, lit, load, addr, of_opd, bin, no_more, and_then, first, blocks, branches, skips, exec, returns, returns_within, enter}
-use types.ByLocal.{alloc_all, pass_all, free_all, look_at, get, through, sets, sets_last, is, env}
-use denote.Exit.{no}
+use mir.Val.{vptr}
+use base.Fml.{GName, Fml, fres}
+use base.Logic.{sep}
+use prog.Wp.{Env}
+use types.Kit.{done, fsplit3, group, regoal}
+use types.Part.{look_in}
+use types.Run.{load, addr}
+use types.ByLocal.{through, sets_last, is}
 use denote.Follow.{follows, follows_by, lends_Part}
-use denote.Memory.{mem, lone, cell_at, part_of}
-use denote.RattleType.{RattleType, owns}
-use denote.RawPtr.{Ptr, block_ptr, null_ptr, ptr_val, lies_at, Testable, tests_null, in_a_block}
+use denote.Memory.{mem, cell_at, part_of}
 use denote.Ref.{MutRef}
-use denote.Signature.{types_at, plain, mut_ref_to}
-use denote.Steps.{nothing, opens, closes}
-use denote.Triple.Walked.{Stays, stay_dropped, walk_of, Goes-dropped}
-use Rattle.core.proofs.alloc.Shapes.{after}
-use Rattle.core.proofs.option.Made.{Some-of, none_of}
-use Rattle.std.proofs.raw_atomic.Walks.{proved_at, leaves}
+use denote.Signature.{mut_ref_to}
+use denote.Steps.{opens, closes}
+use denote.Triple.Walked.{Goes-dropped}
 use Rattle.std.specs.contracts.option.Option as optional
 use Rattle.std.specs.declared.option.Option.{Option}
 use Rattle.std.specs.declared.option.Option.TheVariants.{None, Some}
-use Rattle.std_alloc.specs.Box.Ownership.{box_owns}
-use Rattle.vdb_c.specs.Kept.{freeing, owns_boxed}
-use Rattle.vdb_c.specs.HeldGrid.{Row}
 use Rattle.vdb_c.specs.LendsGrid.{with_grid}
 use Rattle.vdb_c.proofs.Pointers.{pointer_val, is_testable, either}
 use Rattle.vdb_c.proofs.HeldGridValues.{HeldGrid, held_grid_in, held_grid_out}

@@ -1,42 +1,14 @@
 -- `into_box` makes a box of the pointer that is kept, which is not null.
-use Rattle.std.proofs.Common.{◌≡◌, List, [], ◌∷◌, ◌++◌, refl, sym, ap, ◌∙◌, subst}
-use mir.Syntax.{Args, a_type, dcons, dnil}
-use mir.Val.{Val}
-use mir.MapTy.{inst_fn}
-use base.Logic.{SProp, ent, emp, id⊢}
-use base.Fml.{ftrue, flft}
-use prog.Wp.{WpFn}
-use types.Kit.{‵, raw, ◌⊛◌, some, later, at_ret, ◌$◌, ◌∵◌, !, qed, by, move, keep, drop, split, split3, join, fsplit, fjoin, pick, suffices, use0, use1, await, rewrite, feq_i}
-use types.Part.{sub, whole}
-use types.Run.{stop, fld, of_opd, no_more, and_then, first, blocks, exec, returns, enter}
-use types.ByLocal.{alloc_all, pass_all, free_all, look_at, get, get_in, sets, lands_last, env}
+use Rattle.vdb_c.proofs.Common.{◌≡◌, List, [], ◌∷◌, ◌++◌, refl, sym, ap, ◌∙◌, subst, Args, a_type, dcons, dnil, Val, inst_fn, SProp, ent, emp, id⊢, ftrue, flft, WpFn, ‵, raw, ◌⊛◌, some, later, at_ret, ◌$◌, ◌∵◌, !, qed, by, move, keep, drop, split, split3, join, fsplit, fjoin, pick, suffices, use0, use1, await, rewrite, feq_i, sub, whole, stop, fld, of_opd, no_more, and_then, first, blocks, exec, returns, enter, alloc_all, pass_all, free_all, look_at, get, get_in, sets, env, fact, fact_i, tables, no, param, layout, bounded, param_laws, RattleType, owns, block_ptr, ptr_val, types_at, plain, nothing, only, heard, triple_of, Stays, stay_dropped, walk_of, Goes-blank, after, fm, Ptr-Good, Good, box_out, box_in, proved_at, leaves, IsSome, owns_boxed}
+use types.ByLocal.{lands_last}
 use contract.BorrowLft.{◌⊑◌}
-use contract.Monad.{fact, fact_i}
-use contract.Running.{tables}
-use denote.Exit.{no}
-use denote.Param.{param, layout, bounded}
-use denote.Param.Laws.{param_laws}
-use denote.RattleType.{RattleType, owns}
-use denote.RawPtr.{block_ptr, ptr_val}
-use denote.Signature.{types_at, plain}
-use denote.Steps.{nothing, only, heard}
 use denote.Triple.Call.{calls_at_last}
 use denote.Triple.Clauses.{Lasts, lasts}
-use denote.Triple.Spec.{triple_of}
-use denote.Triple.Walked.{Stays, stay_dropped, walk_of}
-use Rattle.core.proofs.alloc.Calls.{Goes-blank}
-use Rattle.core.proofs.alloc.Shapes.{after}
-use Rattle.core.proofs.atomic.Steps.{fm, Ptr-Good}
-use Rattle.core.proofs.cell.Inside.{Good}
 use Rattle.std_alloc.proofs.BoxSteps.Form as box
-use Rattle.std_alloc.proofs.BoxSteps.Steps.{box_out, box_in}
-use Rattle.std.proofs.raw_atomic.Walks.{proved_at, leaves}
-use Rattle.std.specs.Prelude.{IsSome}
 use Rattle.std.specs.declared.option.Option.{Option}
 use Rattle.std.specs.declared.option.Option.TheVariants.{Some}
 use Rattle.std_alloc.specs.contracts.boxed.Box.from_raw as callee
 use Rattle.std_alloc.proofs.boxed.Box.from_raw.Met.{met}
-use Rattle.vdb_c.specs.Kept.{owns_boxed}
 use Rattle.vdb_c.proofs.Pointers.{beside_val, beside_fits, either, not_some}
 use Rattle.vdb_c.proofs.KeptValues.{Kept, kept_out}
 use Rattle.vdb_c.specs.contracts.handles.kept.Kept.into_box.{ended, clauses}

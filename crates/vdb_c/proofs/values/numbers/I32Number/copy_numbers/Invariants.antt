@@ -1,6 +1,4 @@
-use Rattle.std.proofs.Common.{◌≡◌, ◌<◌, ℕ, ℤ, slice_index_or}
-use Rattle.vdb_node.specs.Leaf.{cell_in}
-use Rattle.vdb_value.specs.declared.Cell.{Cell}
+use Rattle.vdb_c.proofs.Common.{◌≡◌, ◌<◌, ℕ, ℤ, slice_index_or, cell_in, Cell}
 use Rattle.vdb_c.proofs.values.numbers.I32Number.copy_numbers.Given as goal
 
 abbrev pub invariant-loop-i : goal.invariant-loop-i

@@ -1,5 +1,4 @@
-use Rattle.std.proofs.Common.{◌≡◌, ◌-◌, ◌∙◌, ap, arith, drop, length, length-take, take}
-use Rattle.vdb_file.specs.internal.Reading.{Stock}
+use Rattle.vdb_file.proofs.Common.{◌≡◌, ◌-◌, ◌∙◌, ap, arith, drop, length, length-take, take, Stock}
 use Rattle.vdb_file.proofs.FieldBytes.{later_part}
 use Rattle.vdb_file.proofs.loading.input.Input.skip.Goals as goal
 

@@ -1,6 +1,6 @@
 use Rattle.std.proofs.Common.{◌<◌, ◌≤◌, ℕ, arith, rules}
 use Rattle.vdb_tree.proofs.Constants.{entries_few}
-use Rattle.vdb_tree.proofs.sweeps.prune.entry_corner.Goals as goal
+use Rattle.vdb_tree.proofs.sweeps.entry_corner.Goals as goal
 
 fits : (i n : ℕ) → i < n → n ≤ 32768 → i < 65536
 fits i n h k = omega (arith, h, k)
