@@ -113,11 +113,11 @@ module _ {V : Type 0} (t : Layout V) (q p : Coord) (path : TreePath V) where
       omega (arith, a, b)
 
 -- an accessor's path is whole for each coordinate of the leaf that it ends in
-pub near_whole : {V X : Type 0} (t : Layout V) (coords : List (Option Coord)) (paths : List (TreePath V)) (k : ℕ) (q p : Coord) (found : Option X)
+pub whole_if_found : {V X : Type 0} (t : Layout V) (coords : List (Option Coord)) (paths : List (TreePath V)) (k : ℕ) (q p : Coord) (found : Option X)
     → ArePathsWhole t coords paths → last coords k ≡ Some q → is_some found ≡ ends_in_leaf (common vdb q p (path paths k))
     → IfSome found (λ _. IsWhole vdb t (path paths k) p)
-near_whole t coords paths k q p None h s e = tt
-near_whole t coords paths k q p (Some x) h s e = whole_here t q p (path paths k) (sym e) (h k q s)
+whole_if_found t coords paths k q p None h s e = tt
+whole_if_found t coords paths k q p (Some x) h s e = whole_here t q p (path paths k) (sym e) (h k q s)
 
 -- if the leaf that ends a path holds p, one visit covers all below the lowest cached node
 pub near_below : {V : Type 0} (t : Layout V) (coords : List (Option Coord)) (paths : List (TreePath V)) (k : ℕ) (q p : Coord) (old new : ℕ)
@@ -163,10 +163,9 @@ written_elsewhere {V = V} old new p cell (ToLeaf u l f) e h w =
       | inr none ↦ absurd (no_node (node_at old.leaves f.slot) none h.2.live.0)
     ]
 
--- and one written, or not, in the leaf that ends an accessor's path
-pub near_elsewhere : {V : Type 0} (old new : Layout V) (coords : List (Option Coord)) (paths : List (TreePath V)) (k : ℕ) (q p : Coord) (cell : Cell V) (written : Bool)
-    → ArePathsWhole old coords paths → last coords k ≡ Some q → written ≡ ends_in_leaf (common vdb q p (path paths k)) → (written ≡ true → IsVoxelWritten vdb old new p cell) → (written ≡ false → new ≡ old)
+-- and one written, or not, in the leaf that ends a path from q
+pub near_elsewhere : {V : Type 0} (old new : Layout V) (cached : TreePath V) (q p : Coord) (cell : Cell V) (written : Bool)
+    → Lives vdb old cached q → written ≡ ends_in_leaf (common vdb q p cached) → (written ≡ true → IsVoxelWritten vdb old new p cell) → (written ≡ false → new ≡ old)
     → KeepsElsewhere vdb old new p
-near_elsewhere old new coords paths k q p cell true h s e w same =
-    written_elsewhere old new p cell (common vdb q p (path paths k)) (sym e) (common_lives vdb old q p (path paths k) (h k q s).lives) (w refl)
-near_elsewhere {V = V} old new coords paths k q p cell false h s e w same = λ level r d. ap (λ (t : Layout V). entry_over vdb level t r) (same refl)
+near_elsewhere old new cached q p cell true h e w same = written_elsewhere old new p cell (common vdb q p cached) (sym e) (common_lives vdb old q p cached h) (w refl)
+near_elsewhere {V = V} old new cached q p cell false h e w same = λ level r d. ap (λ (t : Layout V). entry_over vdb level t r) (same refl)

@@ -25,8 +25,6 @@ use vdb_pool::Steps;
 use vdb_tree::{Path, Tree, TreeRefusal, Write};
 use vdb_value::Cell;
 
-const ORIGIN: Coord = Coord { x: 0, y: 0, z: 0 };
-
 /// A tree of the standard configuration with `K` accessors (OpenVDB's `Grid` with `ValueAccessor`s that stay valid).
 #[derive(Drop)]
 pub struct Grid<V: Stored<512> + Stored<64> + Stored<8>, const K: usize> {
@@ -66,13 +64,7 @@ impl<V: Stored<512> + Stored<64> + Stored<8>, const K: usize> Grid<V, K> {
         ensures last { (k : ℕ) → last result.coords k ≡ None }
         ensures empty { (k : ℕ) → path result.paths k ≡ Empty }
     {
-        Grid {
-            tree: Tree::new(alloc, background, limit),
-            coords: [None; K],
-            paths: [Path::Empty; K],
-            near: ORIGIN,
-            near_path: Path::Empty,
-        }
+        Grid::from_tree(Tree::new(alloc, background, limit))
     }
 
     /// Returns the grid of a tree, with accessors that were given no coordinate and cache no node. It takes no memory.
@@ -85,7 +77,7 @@ impl<V: Stored<512> + Stored<64> + Stored<8>, const K: usize> Grid<V, K> {
             tree,
             coords: [None; K],
             paths: [Path::Empty; K],
-            near: ORIGIN,
+            near: Coord { x: 0, y: 0, z: 0 },
             near_path: Path::Empty,
         }
     }
@@ -148,6 +140,7 @@ impl<V: Stored<512> + Stored<64> + Stored<8>, const K: usize> Grid<V, K> {
             (write p change (field_of vdb self.old.tree)) (field_of vdb self.new.tree) (Ok tt) }
         ensures limit { self.new.tree.limit ≡ self.old.tree.limit }
         ensures alone { IsTrue result → IsVoxelWritten vdb self.old.tree self.new.tree p (written change ((field_of vdb self.old.tree).cell p)) }
+        ensures elsewhere { KeepsElsewhere vdb self.old.tree self.new.tree p }
         ensures paths { self.new.paths ≡ self.old.paths }
         ensures last { self.new.coords ≡ self.old.coords }
         ensures untouched { result ≡ false → self.new ≡ self.old }
@@ -171,11 +164,15 @@ impl<V: Stored<512> + Stored<64> + Stored<8>, const K: usize> Grid<V, K> {
         ensures unchanged { written change ((field_of vdb self.old.tree).cell p) ≡ (field_of vdb self.old.tree).cell p → IsOk result }
         ensures leaf { IsTrue (in_leaf vdb self.old.tree p) → IsOk result }
         ensures non_constant { is_constant V.eq (field_of vdb self.old.tree) (block_around vdb Leaf p) ≡ false → IsOk result }
+        ensures elsewhere { HasCapacity self.old.tree (key vdb p) → KeepsElsewhere vdb self.old.tree self.new.tree p }
         ensures steps { HasCapacity self.old.tree (key vdb p)
             ⊎ (written change ((field_of vdb self.old.tree).cell p) ≡ (field_of vdb self.old.tree).cell p)
             → steps.new ≤ steps.old + (8 + 3 * K) }
     {
-        let _ = self.get(p, steps);
+        if self.near_set(p, change, steps) {
+            return Ok(());
+        }
+        let _ = self.far_get(p, steps);
         if self.near_set(p, change, steps) {
             return Ok(());
         }
@@ -416,13 +413,7 @@ impl<V: Stored<512> + Stored<64> + Stored<8>, const K: usize> Grid<V, K> {
         ensures memory { IfErr result (λ refusal. refusal ≡ Memory) }
     {
         let tree = self.tree.try_copy()?;
-        Ok(Grid {
-            tree,
-            coords: [None; K],
-            paths: [Path::Empty; K],
-            near: ORIGIN,
-            near_path: Path::Empty,
-        })
+        Ok(Grid::from_tree(tree))
     }
 }
 

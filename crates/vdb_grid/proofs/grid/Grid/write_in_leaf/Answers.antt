@@ -20,5 +20,5 @@ pub returns-clause-elsewhere : goal.returns-clause-elsewhere
 returns-clause-elsewhere g c =
     let cell = written c.args.change ((field_of vdb c.self.inside.tree).cell c.args.p) in
     rw (← c.self.view_is)
-    (near_elsewhere c.self.inside.tree c.write_near-written.new.self c.self.inside.coords c.self.inside.paths c.args.k c.in-Some.q c.args.p cell c.write_near-written.result
-    c.self.invariant.0 c.in-Some.is c.write_near-written.ensures.answer c.write_near-written.ensures.alone c.write_near-written.ensures.untouched)
+    (near_elsewhere c.self.inside.tree c.write_near-written.new.self _ c.in-Some.q c.args.p cell c.write_near-written.result
+    (c.self.invariant.0 c.args.k c.in-Some.q c.in-Some.is).lives c.write_near-written.ensures.answer c.write_near-written.ensures.alone c.write_near-written.ensures.untouched)
