@@ -68,7 +68,7 @@ def stages(options):
         [Suite("proofs", [python, ".ci/proofs.py", *(it for it in options if it == "--anew")], 22)],
         [Suite("libvdb", ["tools/build-libvdb"], 1)],
         [
-            Suite("edits", ["RT_JOBS=2", "nice", "-n", "10", "edits/run", "--ci"], 22),
+            Suite("edits", ["nice", "-n", "10", "edits/run", "--ci"], 22),
             Suite("library tests", ["tests/library/run"], 235),
             Suite("tests of tools/openvdb", ["tools/openvdb/test"], 1),
             Suite("fault injection", ["fault_injection/run"], 100_000),

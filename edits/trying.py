@@ -23,6 +23,9 @@ from crates import crates_below, named_by  # noqa: E402
 REFUSED = re.compile(r"(?:\./)?proofs/(\S+)/(?:Answers|Proof)\.antt:\d+:\d+: error: `([^`]+)`: (.*)")
 OPEN = re.compile(r"note: `([^`]+)` of (?:\./)?proofs/(\S+)/Answers\.antt must prove")
 
+# the most edits of one check: with more, one lane would work on while the others have nothing left
+BATCH = 8
+
 # what refuses an answer that names something which the edit took away: it says nothing of a clause
 LOST = re.compile(r"is not in scope|has no field|is no name|has no `")
 
@@ -103,7 +106,7 @@ def batches_of(crate, edits):
         if changed_by(spans_of(edit, folder_of(crate)), functions) != {edit.heads["function"]}:
             alone.append([edit])
             continue
-        batch = next((it for it in rounds if all(other.heads["function"] != edit.heads["function"] for other in it)), None)
+        batch = next((it for it in rounds if len(it) < BATCH and all(other.heads["function"] != edit.heads["function"] for other in it)), None)
         if batch:
             batch.append(edit)
         else:
@@ -116,21 +119,20 @@ def missing_below(crate):
     return [it for it in crates_below(crate, named_by(TOP)) if not os.path.isfile(f"{library_of(it)}/format")]
 
 
-def try_batch(crate, batch):
-    """Tries a batch by one check, and each half of it by itself if the front end rejects the whole."""
+def try_batch(crate, batch, kept):
+    """Tries a batch by one check, and each half of it by itself if the front end rejects the whole. The folder `kept` keeps what is proved."""
     spans = [it for edit in batch for it in spans_of(edit, folder_of(crate))]
-    output, seconds = check(crate, texts_of(crate, spans), sorted({it.heads["function"] for it in batch}))
+    output, seconds = check(crate, texts_of(crate, spans), sorted({it.heads["function"] for it in batch}), kept)
     if re.match(r"only=\d+ ", output.rstrip().rpartition("\n")[2]):
         return [judged(it, *goals_of(crate, output), seconds / len(batch)) for it in batch]
     if len(batch) > 1:
-        return [it for part in (batch[: len(batch) // 2], batch[len(batch) // 2 :]) for it in try_batch(crate, part)]
+        return [it for part in (batch[: len(batch) // 2], batch[len(batch) // 2 :]) for it in try_batch(crate, part, kept)]
     unread = UNREAD.search(output)
     return [Tried(batch[0], "", f"the check did not reach its proof: {unread[0] if unread else output[-300:].strip()}", seconds)]
 
 
-def check(crate, texts, names):
+def check(crate, texts, names, kept):
     """Checks functions of a crate with other texts in place of some files; returns the output and the processor seconds."""
-    kept = f"{TOP}/out/edits/{crate}"
     os.makedirs(kept, exist_ok=True)
     named = named_by(TOP)
     built = {it: library_of(it) for it in crates_below(crate, named)}
