@@ -1,13 +1,14 @@
 -- Fills of a box, counted in upper extents: those of the table with those that meet the box.
-use Rattle.vdb_tree.proofs.Common.{◌≡◌, ◌≢◌, ◌⊎◌, inl, inr, ℕ, ◌<◌, ◌≤◌, Bool, true, false, List, ◌∷◌, length, refl, sym, subst, ◌∙◌, arith, IsTrue, IsSome, Err, Ok, OnOk, Result, IsDistinct, keys_of, is_member, length-keys_of, length-le_from_is_member, block, block_number, block_numbers, key, meets, AreBits, blocks_meeting, Box, coord_eq, coordinates, everywhere, is_box, is_inside, is_within, Bits, Coord, Upper, both, not_true, member_passing, distinct_filter, distinct_coordinates, corner_in_range, number_in_range, number_of_corner, numbered_in_range, within_each, coord_equiv, coord_exact, inside_numbered, number_in_block, Cell, IsSwept, Field, fill, Layout, cell_at, field_of, background_cell, root_at, ObeysLimit, is_background, roots, HasCapacityFor, LacksCapacityFor, MeetsRootBlock, IsSound, HasCapacity, TreeRefusal, Memory, RootLimit}
-use Rattle.std.specs.Prelude.{filter, IfErr}
+use Rattle.vdb_tree.proofs.Common.{◌≡◌, ◌≢◌, ◌⊎◌, inl, inr, ℕ, ◌+◌, ◌<◌, ◌≤◌, Bool, true, false, List, [], ◌∷◌, length, refl, sym, subst, ◌∙◌, arith, IsTrue, IsSome, Err, Ok, OnOk, Result, IsDistinct, keys_of, is_member, length-keys_of, length-le_from_is_member, block, block_number, block_numbers, key, meets, AreBits, blocks_meeting, Box, coord_eq, coordinates, everywhere, is_box, is_inside, is_within, Bits, Coord, Upper, both, not_true, member_passing, distinct_filter, distinct_coordinates, corner_in_range, number_in_range, number_of_corner, numbered_in_range, within_each, coord_equiv, coord_exact, inside_numbered, number_in_block, Cell, IsSwept, Field, fill, Layout, cell_at, field_of, background_cell, root_at, ObeysLimit, is_background, roots, HasCapacityFor, LacksCapacityFor, MeetsRootBlock, IsSound, HasCapacity, TreeRefusal, Memory, RootLimit}
+use Rattle.std.specs.Prelude.{◌++◌, filter, IfErr}
 use Rattle.vdb_coord.proofs.Boxes.{box_from_inside}
-use Rattle.vdb_coord.proofs.Meeting.{common_from_meets}
+use Rattle.std.proofs.lemmas.List.{length-append}
+use Rattle.vdb_coord.proofs.Meeting.{common_from_meets, meets_from_common}
 use Rattle.vdb_tree.proofs.Blocks.{never, uniform_block, uniform_block_from, non_background_from}
 use Rattle.vdb_tree.proofs.Fields.{cell_inside}
 use Rattle.vdb_tree.proofs.Levels.{bool_cases, coord_cases}
 use Rattle.vdb_tree.proofs.Needed.{absent_block, is_some_from, some_or_none}
-use Rattle.vdb_tree.proofs.Rooted.{absent_key, key_member, member_entry, one_more, or_cases, roots_at_least, roots_at_most}
+use Rattle.vdb_tree.proofs.Rooted.{or_first, or_second, absent_key, key_member, member_entry, one_more, or_cases, roots_at_least, roots_at_most}
 
 -- the cells of a filled box, and those around it
 module _ {V : Type 0} (box : Box) (cell : Cell V) (f : Field V) (q : Coord) (within : IsTrue (is_inside everywhere q)) where
@@ -206,3 +207,27 @@ pub or_entered : {E : Type 0} (box : Box) (Plain : Type 0) (Entered : Coord → 
     → OnOk result ((p : Coord) → IsTrue (is_inside box p) → Plain ⊎ Entered p)
 or_entered box Plain Entered (Ok _) h = λ p inside. inr (h p inside)
 or_entered box Plain Entered (Err _) h = tt
+
+-- what one of two lists has, both have together
+member_first : (xs ys : List Coord) (k : Coord) → is_member coord_eq xs k ≡ true → is_member coord_eq (xs ++ ys) k ≡ true
+member_first [] ys k h = cc
+member_first (x ∷ xs) ys k h = elim (or_cases (coord_eq k x) (is_member coord_eq xs k) h) [ inl e ↦ or_first (coord_eq k x) _ e | inr m ↦ or_second (coord_eq k x) _ (member_first xs ys k m) ]
+
+member_second : (xs ys : List Coord) (k : Coord) → is_member coord_eq ys k ≡ true → is_member coord_eq (xs ++ ys) k ≡ true
+member_second [] ys k h = h
+member_second (x ∷ xs) ys k h = or_second (coord_eq k x) _ (member_second xs ys k h)
+
+-- a table with room for as many entries as upper extents meet the box has capacity for it
+pub capacity_of_few : {V : Type 0} (bits : Bits) (t : Layout V) (box : Box) → is_within box everywhere ≡ true → blocks_meeting bits Upper box + length t.root ≤ t.limit → HasCapacityFor bits t box
+capacity_of_few bits t box range few =
+    let test : Coord → Bool = λ n. meets (block bits Upper n) box in
+    let met = filter test (coordinates (block_numbers bits Upper)) in
+    record {
+      keys = keys_of t.root ++ met;
+      few = let a = length-keys_of t.root in let b = length-append (keys_of t.root) met in omega (arith, a, b, few);
+      entered = λ k h. member_first (keys_of t.root) met k (key_member t k h);
+      met = λ p i.
+          let within = number_in_range bits Upper p (within_each box everywhere p range i) in
+          let meets_it = meets_from_common (block bits Upper (key bits p)) box p (inside_numbered bits Upper (key bits p) p refl) i in
+          member_second (keys_of t.root) met (key bits p) (member_passing (block_numbers bits Upper) test (key bits p) ∙ rw (within, meets_it) refl);
+    }

@@ -253,15 +253,15 @@ module _ {V : Type 0} (bits : Bits) where
       pub with_leaf_keeps : Keeps bits t with_leaf
       with_leaf_keeps = record { head = record { background = refl; limit = refl }; cells = cells_stay }
 
-  -- an upper extent without an entry gets the tile that its absence stands for
-  module _ (t : Layout V) (sound : IsSound bits t) (p : Coord) (c : Cell V) (root : List (Coord × Entry V))
-      (tiled : root_entry bits t p ≡ Tile c)
-      (changed : (q : Coord) → root_at root q ≡ (if coord_eq (key bits p) q then Some (Tile c) else root_at t.root q)) where
+  -- an upper extent gets the entry that it has, or that its absence stands for
+  module _ (t : Layout V) (sound : IsSound bits t) (p : Coord) (x : Entry V) (root : List (Coord × Entry V))
+      (tiled : root_entry bits t p ≡ x)
+      (changed : (q : Coord) → root_at root q ≡ (if coord_eq (key bits p) q then Some x else root_at t.root q)) where
     abbrev pub with_entry : Layout V
     with_entry = record t { root = root }
 
-    entry_turns : Turns (block_number bits Upper) p (root_entry bits t) (root_entry bits with_entry) (Tile c)
-    entry_turns = root_turns bits t with_entry p (Tile c) refl changed
+    entry_turns : Turns (block_number bits Upper) p (root_entry bits t) (root_entry bits with_entry) x
+    entry_turns = root_turns bits t with_entry p x refl changed
 
     entries_stay : (q : Coord) → root_entry bits with_entry q ≡ root_entry bits t q
     entries_stay q =
@@ -280,20 +280,17 @@ module _ {V : Type 0} (bits : Bits) where
     with_entry_keeps = record { head = record { background = refl; limit = refl }; cells = cells_from t with_entry refl refl lower_too }
 
     pub with_entry_adds : AddsNodes bits t with_entry
-    with_entry_adds = adds t with_entry (same_tiles _ _ entries_stay) (same_tiles _ _ upper_too) (same_tiles _ _ lower_too) (put_keys t root (key bits p) (Tile c) changed)
+    with_entry_adds = adds t with_entry (same_tiles _ _ entries_stay) (same_tiles _ _ upper_too) (same_tiles _ _ lower_too) (put_keys t root (key bits p) x changed)
 
     pub with_entry_sound : IsTrue (is_inside (block_numbers bits Upper) (key bits p)) → length root ≤ t.limit → IsDistinct coord_eq (keys_of root) → IsSound bits with_entry
     with_entry_sound inside capacity apart = record {
       limit = capacity;
       apart = apart;
-      keys = root_keys bits t root (key bits p) (Tile c) sound inside changed;
+      keys = root_keys bits t root (key bits p) x sound inside changed;
       uppers = owned_as bits Upper _ _ _ entries_stay sound.uppers;
       lowers = owned_as bits Lower _ _ _ upper_too sound.lowers;
       leaves = owned_as bits Leaf _ _ _ lower_too sound.leaves;
     }
-
-    pub with_entry_at : root_entry bits with_entry p ≡ Tile c
-    with_entry_at = entries_stay p ∙ tiled
 
     pub with_entry_same : (q : Coord) → SameDescent bits t with_entry q
     with_entry_same q Upper = entries_stay q

@@ -288,9 +288,8 @@ module _ {V : Type 0} (bits : Bits) (t : Layout V) (sound : IsSound bits t) (p :
 -- ---- a tile of the table
 
 module _ {V : Type 0} (bits : Bits) (t : Layout V) (sound : IsSound bits t) (p : Coord) (b c : Cell V) (root : List (Coord × Entry V))
-    (entered : IsSome (root_at t.root (key bits p))) (tiled : root_entry bits t p ≡ Tile b)
-    (updates : (k : Coord) → root_at root k ≡ cond (coord_eq (key bits p) k) (Some (Tile c)) (root_at t.root k))
-    (size : length root ≤ length t.root) (apart : IsDistinct coord_eq (keys_of root)) where
+    (was : root_at t.root (key bits p) ≡ Some (Tile b)) (updates : (k : Coord) → root_at root k ≡ cond (coord_eq (key bits p) k) (Some (Tile c)) (root_at t.root k))
+    (size : length root ≡ length t.root) (apart : IsDistinct coord_eq (keys_of root)) where
   abbrev root_tile : Layout V
   root_tile = record t { root = root }
 
@@ -316,13 +315,13 @@ module _ {V : Type 0} (bits : Bits) (t : Layout V) (sound : IsSound bits t) (p :
   root_tile_fills = record { head = record { background = refl; limit = refl }; cells = root_tile_cells }
 
   root_tiles_there : (q : Coord) → block_number bits Upper q ≡ block_number bits Upper p → root_entry bits t q ≡ Tile b
-  root_tiles_there q same = root_by_block bits t q p same ∙ tiled
+  root_tiles_there q same = root_by_block bits t q p same ∙ rw was refl
 
   pub root_tile_sound : IsSound bits root_tile
   root_tile_sound = record {
     limit = omega (arith, size, sound.limit);
     apart = apart;
-    keys = λ k h. sound.keys k (root_keys bits t p (Some (Tile c)) root updates (λ _. entered) k h);
+    keys = λ k h. sound.keys k (root_keys bits t p (Some (Tile c)) root updates (λ _. rw was refl) k h);
     uppers = childless_owned bits Upper (root_entry bits t) (root_entry bits root_tile) p c (block_number bits Upper) t.uppers root_tile_roots sound.uppers
         (λ q r same e. tile_no_child b r (sym (root_tiles_there q same) ∙ e));
     lowers = childless_owned bits Lower (upper_entry bits t) (upper_entry bits root_tile) p c (block_number bits Upper) t.lowers root_tile_uppers sound.lowers

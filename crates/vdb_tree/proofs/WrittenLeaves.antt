@@ -1,10 +1,11 @@
--- What becomes of a field when a leaf extent gets the cells of a leaf.
-use Rattle.vdb_tree.proofs.Common.{◌≡◌, ◌≢◌, ◌<◌, ℕ, true, false, IsTrue, refl, sym, ap, subst, ◌∙◌, inl, inr, length, get_or_default, block_around, block_number, key, offset, sub_block, AreBits, everywhere, is_inside, Bits, Coord, Level, Leaf, Lower, Upper, not_true, block_in_range, corner_of_entry, inside_numbered, lower_from_leaf, number_in_block, upper_from_lower, entries_is, offset_below, is_on, cell_in, IsConstantLeaf, entry_count, Child, Tile, Cell, Field, fill, off, AreSameCells, IsAlteredIn, Layout, background_cell, cell_at, entry_over, field_of, lower_entry, root_at, with_leaf, IsSplit}
+-- What becomes of a field when a leaf extent gets the cells of a leaf, or one cell.
+use Rattle.vdb_tree.proofs.Common.{◌≡◌, ◌≢◌, ◌<◌, ℕ, true, false, IsTrue, refl, sym, ap, subst, ◌∙◌, inl, inr, length, get_or_default, block_around, block_number, key, offset, sub_block, AreBits, everywhere, is_inside, Bits, Coord, Leaf, not_true, block_in_range, corner_of_entry, inside_around, inside_numbered, lower_from_leaf, number_in_block, upper_from_lower, entries_is, offset_below, is_on, cell_in, IsConstantLeaf, entry_count, Tile, Cell, Fills, Keeps, Field, fill, off, AreSameCells, IsAlteredIn, Layout, background_cell, cell_at, field_of, lower_entry, with_leaf}
 use Rattle.vdb_node.specs.Leaf.{Leaf as LeafOf}
-use Rattle.vdb_tree.proofs.Descents.{lower_by_block, tile_cell, tile_lower, tile_upper}
+use Rattle.vdb_tree.proofs.Descents.{lower_by_block, tile_cell}
+use Rattle.vdb_tree.proofs.Equations.{keeps_field, same_field}
 use Rattle.vdb_tree.proofs.Fields.{cell_inside, same_cells}
-use Rattle.vdb_tree.proofs.Levels.{coord_cases, like_coords, tile_no_child, unlike_coords}
-use Rattle.vdb_tree.proofs.Needed.{absent_entry, is_some_from, some_or_none}
+use Rattle.vdb_tree.proofs.Levels.{coord_cases, like_coords, unlike_coords}
+use Rattle.vdb_tree.proofs.Needed.{tile_block}
 
 -- the cell at an index of a leaf that has a value there
 default_cell : {V : Type 0} (leaf : LeafOf V) (i : ℕ) (c d : Cell V) → i < length leaf.values → cell_in c leaf i ≡ cell_in d leaf i
@@ -57,21 +58,41 @@ module _ {V : Type 0} (bits : Bits) (p : Coord) (leaf : LeafOf V) where
       let was : (field_of bits t).cell corner ≡ tile = cell_inside t.background (cell_at bits t) corner range ∙ tile_cell bits t tile corner (lower_by_block bits t corner p at.0 ∙ over) in
       default_cell leaf i d none (subst (λ n. i < n) (sym size) h) ∙ now ∙ was)
 
-module _ {V : Type 0} (bits : Bits) (t : Layout V) (p : Coord) (slot : ℕ) (child : lower_entry bits t p ≡ Child slot) where
-  child_at : (q : Coord) → IsTrue (is_inside (block_around bits Leaf p) q) → lower_entry bits t q ≡ Child slot
-  child_at q inside = lower_by_block bits t q p (number_in_block bits Leaf (block_number bits Leaf p) q inside) ∙ child
+module _ {V : Type 0} (bits : Bits) (p : Coord) (cell : Cell V) where
+  outside : (q : Coord) → block_number bits Leaf q ≢ block_number bits Leaf p → is_inside (block_around bits Leaf p) q ≡ false
+  outside q d = not_true _ (λ h. d (number_in_block bits Leaf (block_number bits Leaf p) q h))
 
-  no_tile : (level : Level) (q : Coord) → IsTrue (is_inside (block_around bits Leaf p) q) → (tile : Cell V) → entry_over bits level t q ≡ Tile tile → ⊥
-  no_tile Leaf q inside tile e = tile_no_child tile slot (sym e ∙ child_at q inside)
-  no_tile Lower q inside tile e = tile_no_child tile slot (sym (tile_lower bits t tile q e) ∙ child_at q inside)
-  no_tile Upper q inside tile e = tile_no_child tile slot (sym (tile_lower bits t tile q (tile_upper bits t tile q e)) ∙ child_at q inside)
-
-  -- a tree with a leaf over p's extent is split for that extent
-  pub leaf_split : (cell : Cell V) → IsSplit bits (block_around bits Leaf p) cell t
-  leaf_split cell = record {
-    tiles = λ level q inside tile e. absurd (no_tile level q inside tile e);
-    entered = λ q inside. elim (some_or_none (root_at t.root (key bits q))) [
-      | inl x ↦ inr (is_some_from _ x.0 x.1)
-      | inr n ↦ absurd (no_tile Upper q inside (background_cell t) (absent_entry bits t q n))
-    ];
+  -- a fill of p's leaf extent changes only the upper extent around p
+  pub fill_altered : (f : Field V) → IsAlteredIn bits (key bits p) f (fill (block_around bits Leaf p) cell f)
+  fill_altered f = record {
+    background = refl;
+    elsewhere = λ q inside d. let out = outside q (λ e. d (upper_from_lower bits q p (lower_from_leaf bits q p e))) in rw (inside, out) refl;
   }
+
+  -- a fill with another cell than p's changes the field
+  pub fill_differs : (f : Field V) → IsTrue (is_inside everywhere p) → f.cell p ≢ cell → AreSameCells f (fill (block_around bits Leaf p) cell f) → ⊥
+  fill_differs f inside d same =
+      let within = inside_around bits Leaf p in
+      let filled : (fill (block_around bits Leaf p) cell f).cell p ≡ cell = rw (inside, within) refl in
+      d (sym (same p inside) ∙ filled)
+
+  -- the field of a tree whose cells in p's leaf extent become this one
+  fills_field : (old new : Layout V) → Fills bits Leaf old new p cell → field_of bits new ≡ fill (block_around bits Leaf p) cell (field_of bits old)
+  fills_field old new fills = same_field bits new old.background _ fills.head.background (λ q inside.
+      let at = cell_inside old.background (cell_at bits old) q inside in
+      elim (coord_cases (block_number bits Leaf q) (block_number bits Leaf p)) [
+        | inl e ↦
+            let within : is_inside (block_around bits Leaf p) q ≡ true = inside_numbered bits Leaf (block_number bits Leaf p) q e in
+            rw within (fills.cells.here q e)
+        | inr d ↦
+            let out = outside q d in
+            rw (out, at) (fills.cells.there q d)
+      ])
+
+  -- a tile of the cell over p's leaf extent fills it already
+  pub tile_field : (t : Layout V) → lower_entry bits t p ≡ Tile cell → field_of bits t ≡ fill (block_around bits Leaf p) cell (field_of bits t)
+  tile_field t over = fills_field t t (record { head = record { background = refl; limit = refl }; cells = record { here = tile_block bits t Leaf p cell over; there = λ q d. refl } })
+
+  -- the filled leaf extent after steps that kept every cell
+  pub filled_field : (old mid new : Layout V) → Keeps bits old mid → Fills bits Leaf mid new p cell → field_of bits new ≡ fill (block_around bits Leaf p) cell (field_of bits old)
+  filled_field old mid new keeps fills = fills_field mid new fills ∙ ap (fill (block_around bits Leaf p) cell) (keeps_field bits old mid keeps)

@@ -1,10 +1,12 @@
 //! The root table of a tree.
 
-ghost use Rattle.std.specs.Prelude.{◌≡◌, ◌+◌, ◌≤◌, List, Some, None, IfOk, OnOk, OnErr, if◌then◌else◌, IsSome, length};
+ghost use Rattle.std.specs.Prelude.{◌≡◌, ◌+◌, ◌≤◌, ℕ, List, Some, None, IfOk, OnOk, OnErr, if◌then◌else◌, is_some, IsSome, length};
+ghost use Rattle.std.specs.Option.{option_map_or};
 ghost use Rattle.std.specs.List.{IsDistinct};
 ghost use Rattle.std.specs.Map.{keys_of};
 ghost use Rattle.vdb_coord.specs.Space.{coord_eq};
 ghost use Rattle.vdb_coord.specs.declared.Coord.{Coord};
+ghost use Rattle.vdb_node.specs.declared.Entry.TheVariants.{Child, Tile};
 ghost use Rattle.vdb_tree.specs.Layout.{root_at};
 ghost use Rattle.vdb_tree.specs.Table.{IsNextKey};
 
@@ -14,6 +16,7 @@ use std::marker::Model;
 use std::ops::Bound;
 use vdb_coord::Coord;
 use vdb_node::Entry;
+use vdb_value::Cell;
 
 /// Entries by the keys of their upper extents, in the order of keys (OpenVDB's `RootNode`).
 #[derive(Drop)]
@@ -93,14 +96,14 @@ impl<V: Copy> RootTable<V> {
         }
     }
 
-    /// Puts an entry under a key. The error is an allocation failure; it never occurs if the key has an entry.
-    pub(crate) fn put(&mut self, key: Coord, entry: Entry<V>) -> Result<(), AllocError>
-        ensures ok { OnOk result ((k : Coord) → root_at self.new k ≡ (if coord_eq key k then Some entry else root_at self.old k)) }
-        ensures size { OnOk result (length self.new ≤ length self.old + 1) }
+    /// Gives a key this entry, if it has none. The error is an allocation failure; it never occurs if the key has an entry.
+    pub(crate) fn enter(&mut self, key: Coord, entry: Entry<V>) -> Result<(), AllocError>
+        ensures ok { OnOk result ((k : Coord) → root_at self.new k ≡ (if coord_eq key k then Some (option_map_or (λ e. e) (root_at self.old key) entry) else root_at self.old k)) }
+        ensures size { OnOk result (length self.new ≤ length self.old + (if is_some (root_at self.old key) then 0 else 1)) }
         ensures apart { OnOk result (IsDistinct coord_eq (keys_of self.new)) }
         ensures err { OnErr result (self.new ≡ self.old) }
     {
-        self.entries.insert(key, entry)?;
+        self.entries.entry(key)?.or_insert(entry);
         Ok(())
     }
 
@@ -116,7 +119,7 @@ impl<V: Copy> RootTable<V> {
             let Some(entry) = self.get(key) else {
                 unreachable!()
             };
-            copy.put(key, entry)?;
+            copy.enter(key, entry)?;
             passed = Some(key);
         }
         Ok(copy)
@@ -132,6 +135,26 @@ impl<V: Copy> RootTable<V> {
         let Ok(_) = self.entries.insert(key, entry) else {
             unreachable!()
         };
+    }
+
+    /// Replaces the tile under a key by another tile. A child stays. Returns the entry that was there.
+    pub(crate) fn set_tile(&mut self, key: Coord, cell: Cell<V>) -> Entry<V>
+        requires { IsSome (root_at self.old key) }
+        ensures was { root_at self.old key ≡ Some result }
+        ensures child { (slot : ℕ) → result ≡ Child slot → self.new ≡ self.old }
+        ensures tile { (tile : Cell V) → result ≡ Tile tile → (k : Coord) → root_at self.new k ≡ (if coord_eq key k then Some (Tile cell) else root_at self.old k) }
+        ensures size { length self.new ≡ length self.old }
+        ensures apart { IsDistinct coord_eq (keys_of self.new) }
+    {
+        let Some(entry) = self.entries.get_mut(&key) else {
+            unreachable!()
+        };
+        let was = *entry;
+        if let Entry::Child(_) = was {
+            return was;
+        }
+        *entry = Entry::Tile(cell);
+        was
     }
 
     /// Removes the entry under a key, if there is one.

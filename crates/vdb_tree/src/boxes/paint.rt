@@ -83,21 +83,13 @@ impl<
         ensures table { (k : Coord) → k ≢ key (bits_of U L F) p → root_at self.new.root k ≡ root_at self.old.root k }
         ensures entered { IsSome (root_at self.new.root (key (bits_of U L F) p)) }
     {
-        let covered = self.is_covered(bounds, Level::Upper, p);
-        match self.root_entry(p) {
-            Entry::Tile(_) => {
-                if covered {
-                    self.set_root_tile(p, cell);
-                }
+        if self.is_covered(bounds, Level::Upper, p) {
+            if let Entry::Child(upper) = self.paint_root_tile(p, cell) {
+                self.drop_lowers(upper, p, cell, steps);
+                self.drop_upper(upper, p, cell, steps);
             }
-            Entry::Child(upper) => {
-                if covered {
-                    self.drop_lowers(upper, p, cell, steps);
-                    self.drop_upper(upper, p, cell, steps);
-                } else {
-                    self.paint_lower_blocks(upper, bounds, p, cell, steps);
-                }
-            }
+        } else if let Entry::Child(upper) = self.root_entry(p) {
+            self.paint_lower_blocks(upper, bounds, p, cell, steps);
         }
     }
 
@@ -208,20 +200,13 @@ impl<
         ensures outside { KeepsOutside (bits_of U L F) bounds Leaf self.old self.new (block_number (bits_of U L F) Leaf p) }
         ensures painted { ArePainted (bits_of U L F) bounds cell Leaf Leaf self.new (block_number (bits_of U L F) Leaf p) }
     {
-        let covered = self.is_covered(bounds, Level::Leaf, p);
+        if self.is_covered(bounds, Level::Leaf, p) {
+            self.fill_leaf(lower, p, cell, steps);
+            return;
+        }
         match self.lower_entry(lower, p, steps) {
-            Entry::Tile(_) => {
-                if covered {
-                    self.set_lower_tile(lower, p, cell, steps);
-                }
-            }
-            Entry::Child(leaf) => {
-                if covered {
-                    self.drop_leaf(lower, leaf, p, cell, steps);
-                } else {
-                    self.paint_leaf(leaf, bounds, p, cell, steps);
-                }
-            }
+            Entry::Tile(_) => {}
+            Entry::Child(leaf) => self.paint_leaf(leaf, bounds, p, cell, steps),
         }
     }
 

@@ -9,7 +9,7 @@ ghost use Rattle.vdb_coord.specs.declared.Level.TheVariants.{Upper};
 ghost use Rattle.vdb_tree.specs.Changes.{AddsNodes, IsSwept, Keeps, SameDescent};
 ghost use Rattle.vdb_tree.specs.internal.Erase.{AddsBackgroundTiles};
 ghost use Rattle.vdb_tree.specs.Field.{fill};
-ghost use Rattle.vdb_tree.specs.Layout.{bits_of, field_of, background_cell, root_at};
+ghost use Rattle.vdb_tree.specs.Layout.{bits_of, field_of, background_cell, root_at, root_entry};
 ghost use Rattle.vdb_tree.specs.Nodes.{MakesKeysIn, MakesNoKey, MakesNoNode};
 ghost use Rattle.vdb_tree.specs.Outcome.{ObeysLimit};
 ghost use Rattle.vdb_tree.specs.ConstantBlocks.{roots};
@@ -20,7 +20,7 @@ ghost use Rattle.vdb_tree.specs.declared.refusal.TreeRefusal.TheVariants.{Memory
 
 use crate::{TreeOf, TreeRefusal};
 use vdb_coord::{Bounds, Coord, Level};
-use vdb_node::Stored;
+use vdb_node::{Entry, Stored};
 use vdb_pool::Steps;
 use vdb_value::Cell;
 
@@ -112,6 +112,9 @@ impl<
     {
         let mut capacity = self.limit as usize - self.root.len();
         let mut p = bounds.min();
+        if bounds.blocks_meeting_in(self.bits(), Level::Upper) <= capacity as u128 {
+            return true;
+        }
         loop {
             if self.root.get(self.key(p)).is_none() {
                 if capacity == 0 {
@@ -162,20 +165,21 @@ impl<
         self.enter_root_block(p)
     }
 
-    /// Gives the upper extent around p an entry.
+    /// Gives the upper extent around p an entry, if it has none: the tile that its absence stands for.
     pub(crate) fn enter_root_block(&mut self, p: Coord) -> Result<(), TreeRefusal>
         requires { HasCapacity self.old (key (bits_of U L F) p) }
         ensures keeps { Keeps (bits_of U L F) self.old self.new }
         ensures adds { AddsNodes (bits_of U L F) self.old self.new }
         ensures same { (q : Coord) → SameDescent (bits_of U L F) self.old self.new q }
+        ensures entry { root_entry (bits_of U L F) self.new p ≡ root_entry (bits_of U L F) self.old p }
         ensures table { (k : Coord) → k ≢ key (bits_of U L F) p → root_at self.new.root k ≡ root_at self.old.root k }
         ensures entered { OnOk result (IsSome (root_at self.new.root (key (bits_of U L F) p))) }
         ensures memory { IfErr result (λ refusal. refusal ≡ Memory) }
     {
-        if self.root.get(self.key(p)).is_some() {
-            return Ok(());
-        }
-        self.enter(p, self.background_cell())?;
+        let key = self.key(p);
+        let tile = Entry::Tile(self.background_cell());
+        self.swept = false;
+        self.root.enter(key, tile)?;
         Ok(())
     }
 

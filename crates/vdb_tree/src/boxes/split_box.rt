@@ -11,7 +11,7 @@ ghost use Rattle.vdb_tree.specs.Field.{fill};
 ghost use Rattle.vdb_tree.specs.Layout.{bits_of, field_of, background_cell, root_at, root_entry, upper_entry};
 ghost use Rattle.vdb_tree.specs.Nodes.{IsCut, MakesNoKey, MakesOnly, MakesKeysIn};
 ghost use Rattle.vdb_tree.specs.Outcome.{ObeysLimit};
-ghost use Rattle.vdb_tree.specs.SplitBox.{IsSplit, IsSplitTo};
+ghost use Rattle.vdb_tree.specs.SplitBox.{IsCovered, IsSplit, IsSplitTo};
 ghost use Rattle.vdb_tree.specs.Capacity.{HasCapacityFor, IsNextMet};
 ghost use Rattle.vdb_tree.specs.declared.refusal.TreeRefusal.TheVariants.{Memory};
 
@@ -75,6 +75,9 @@ impl<
             → IsSplitTo (bits_of U L F) bounds cell Upper self.new q) }
         ensures memory { IfErr result (λ refusal. refusal ≡ Memory) }
     {
+        if self.covers_roots(bounds) {
+            return Ok(());
+        }
         let mut passed = None;
         loop {
             match self.split_next_root(bounds, cell, passed, steps)? {
@@ -82,6 +85,14 @@ impl<
                 None => return Ok(()),
             }
         }
+    }
+
+    /// Returns true only if the box covers each upper extent that it meets.
+    fn covers_roots(&self, bounds: Bounds) -> bool
+        ensures { IsTrue result → (p : Coord) → IsTrue (is_inside bounds p) → IsCovered (bits_of U L F) bounds Upper p }
+    {
+        self.is_covered(bounds, Level::Upper, bounds.min())
+            && self.is_covered(bounds, Level::Upper, bounds.max())
     }
 
     /// Splits the first upper extent that `next_key_in` finds past the key `after` (the first of all without `after`), if it

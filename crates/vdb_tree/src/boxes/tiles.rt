@@ -51,6 +51,19 @@ impl<
         self.lowers.at_mut(place, steps).set_tile(offset, cell);
     }
 
+    /// Makes the leaf extent around p a tile.
+    pub(crate) fn fill_leaf(&mut self, lower: u32, p: Coord, cell: Cell<V>, steps: &mut Steps)
+        requires { upper_entry (bits_of U L F) self.old p ≡ Child lower }
+        ensures fills { Fills (bits_of U L F) Leaf self.old self.new p cell }
+        ensures above { KeepsUppers self.old self.new }
+        ensures entries { Turns (block_number (bits_of U L F) Leaf) p (lower_entry (bits_of U L F) self.old) (lower_entry (bits_of U L F) self.new) (Tile cell) }
+    {
+        match self.lower_entry(lower, p, steps) {
+            Entry::Child(leaf) => self.drop_leaf(lower, leaf, p, cell, steps),
+            Entry::Tile(_) => self.set_lower_tile(lower, p, cell, steps),
+        }
+    }
+
     /// Replaces p's tile in a lower node by another tile.
     pub(crate) fn set_lower_tile(&mut self, lower: u32, p: Coord, cell: Cell<V>, steps: &mut Steps)
         requires lower { upper_entry (bits_of U L F) self.old p ≡ Child lower }
@@ -80,18 +93,23 @@ impl<
         self.uppers.at_mut(place, steps).set_tile(offset, cell);
     }
 
-    /// Replaces the tile under p's key by another tile.
-    pub(crate) fn set_root_tile(&mut self, p: Coord, cell: Cell<V>)
-        requires entered { IsSome (root_at self.old.root (key (bits_of U L F) p)) }
-        requires tiled { (tile : Cell V) × (root_entry (bits_of U L F) self.old p ≡ Tile tile) }
-        ensures fills { Fills (bits_of U L F) Upper self.old self.new p cell }
-        ensures table { (k : Coord) → root_at self.new.root k ≡ (if coord_eq (key (bits_of U L F) p) k then Some (Tile cell) else root_at self.old.root k) }
-        ensures uppers { Turns (block_number (bits_of U L F) Upper) p (upper_entry (bits_of U L F) self.old) (upper_entry (bits_of U L F) self.new) (Tile cell) }
-        ensures lowers { Turns (block_number (bits_of U L F) Upper) p (lower_entry (bits_of U L F) self.old) (lower_entry (bits_of U L F) self.new) (Tile cell) }
+    /// Replaces the tile under p's key by another tile. A child stays. Returns the entry that was there.
+    pub(crate) fn paint_root_tile(&mut self, p: Coord, cell: Cell<V>) -> Entry<V>
+        requires { IsSome (root_at self.old.root (key (bits_of U L F) p)) }
+        ensures was { root_entry (bits_of U L F) self.old p ≡ result }
+        ensures child { (slot : ℕ) → result ≡ Child slot → self.new ≡ self.old }
+        ensures fills { (tile : Cell V) → result ≡ Tile tile → Fills (bits_of U L F) Upper self.old self.new p cell }
+        ensures table { (tile : Cell V) → result ≡ Tile tile → (k : Coord) → root_at self.new.root k ≡ (if coord_eq (key (bits_of U L F) p) k then Some (Tile cell) else root_at self.old.root k) }
+        ensures uppers { (tile : Cell V) → result ≡ Tile tile → Turns (block_number (bits_of U L F) Upper) p (upper_entry (bits_of U L F) self.old) (upper_entry (bits_of U L F) self.new) (Tile cell) }
+        ensures lowers { (tile : Cell V) → result ≡ Tile tile → Turns (block_number (bits_of U L F) Upper) p (lower_entry (bits_of U L F) self.old) (lower_entry (bits_of U L F) self.new) (Tile cell) }
     {
         let key = self.key(p);
+        let was = self.root.set_tile(key, cell);
+        if let Entry::Child(_) = was {
+            return was;
+        }
         self.swept = false;
-        self.root.set(key, Entry::Tile(cell));
+        was
     }
 
     /// Collapses the lower node around p, which has no leaves, into a tile.

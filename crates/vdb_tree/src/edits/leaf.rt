@@ -13,14 +13,13 @@ ghost use Rattle.vdb_tree.specs.Nodes.{KeepsElsewhere};
 ghost use Rattle.vdb_tree.specs.Leaves.{IsLeafAround, with_leaf};
 ghost use Rattle.vdb_tree.specs.Outcome.{IsOutcome};
 ghost use Rattle.vdb_tree.specs.Paths.{in_leaf, IsWhole, TreePath};
-ghost use Rattle.vdb_tree.specs.SplitBox.{IsSplit};
 ghost use Rattle.vdb_tree.specs.declared.refusal.TreeRefusal.TheVariants.{Memory, RootLimit};
 ghost use Rattle.vdb_value.specs.declared.Cell.{Cell};
 
 use crate::nodes::{held_place, insert_node};
 use crate::{TreeOf, TreeRefusal};
 use std::mem;
-use vdb_coord::{Bounds, Coord, Level};
+use vdb_coord::{Coord, Level};
 use vdb_node::{Entry, Leaf, Stored};
 use vdb_pool::Steps;
 use vdb_value::Cell;
@@ -184,35 +183,17 @@ impl<
         ensures limit { self.new.limit ≡ self.old.limit }
         ensures there { IsTrue (in_leaf (bits_of U L F) self.old p) → IsOk result }
     {
-        if let Entry::Child(slot) = self.leaf_entry(p, steps) {
-            self.paint_whole_leaf(slot, p, cell, steps);
-            self.keeps_to_limit(p);
-            return Ok(());
+        if let Entry::Tile(tile) = self.leaf_entry(p, steps) {
+            if tile == cell {
+                self.keeps_to_limit(p);
+                return Ok(());
+            }
         }
-        let bounds = p.block_in(self.bits(), Level::Leaf);
-        self.split(bounds, cell, steps)?;
-        self.paint(bounds, cell, steps);
+        self.make_capacity(p, steps)?;
+        let upper = self.upper_around(p)?;
+        let lower = self.lower_in(upper, p, steps)?;
+        self.fill_leaf(lower, p, cell, steps);
         Ok(())
-    }
-
-    /// Makes p's leaf extent, which has a leaf, a tile of this cell.
-    fn paint_whole_leaf(&mut self, slot: u32, p: Coord, cell: Cell<V>, steps: &mut Steps)
-        requires { lower_entry (bits_of U L F) self.old p ≡ Child slot }
-        ensures field { field_of (bits_of U L F) self.new ≡ fill (block_around (bits_of U L F) leaf_level p) cell (field_of (bits_of U L F) self.old) }
-        ensures limit { self.new.limit ≡ self.old.limit }
-    {
-        let bounds = self.leaf_bounds(slot, p);
-        self.paint(bounds, cell, steps);
-    }
-
-    /// Returns the box of p's leaf extent. The box can be painted, because the extent has a leaf.
-    fn leaf_bounds(&self, slot: u32, p: Coord) -> Bounds
-        requires { lower_entry (bits_of U L F) self.now p ≡ Child slot }
-        ensures block { result ≡ block_around (bits_of U L F) leaf_level p }
-        ensures split { (cell : Cell V) → IsSplit (bits_of U L F) result cell self.now }
-    {
-        let _ = slot;
-        p.block_in(self.bits(), Level::Leaf)
     }
 
     /// Gives the leaf around p the cells of another.

@@ -12,7 +12,6 @@ ghost use Rattle.vdb_tree.specs.declared.refusal.TreeRefusal.TheVariants.{Memory
 
 use crate::nodes::{held_place, insert_node};
 use crate::{TreeOf, TreeRefusal};
-use std::alloc::AllocError;
 use vdb_coord::{Coord, Level};
 use vdb_node::{Entry, Internal, Leaf, Stored};
 use vdb_pool::Steps;
@@ -27,23 +26,6 @@ impl<
     const WL: usize,
     const WF: usize,
 > TreeOf<V, U, L, F, WU, WL, WF> {
-    /// Gives p's upper extent an entry: the tile that its absence stands for.
-    pub(crate) fn enter(&mut self, p: Coord, cell: Cell<V>) -> Result<(), AllocError>
-        requires tiled { root_entry (bits_of U L F) self.old p ≡ Tile cell }
-        requires capacity { length self.old.root < self.old.limit }
-        ensures keeps { Keeps (bits_of U L F) self.old self.new }
-        ensures adds { AddsNodes (bits_of U L F) self.old self.new }
-        ensures same { (q : Coord) → SameDescent (bits_of U L F) self.old self.new q }
-        ensures tiled { root_entry (bits_of U L F) self.new p ≡ Tile cell }
-        ensures table { (k : Coord) → k ≢ key (bits_of U L F) p → root_at self.new.root k ≡ root_at self.old.root k }
-        ensures entered { OnOk result (IsSome (root_at self.new.root (key (bits_of U L F) p))) }
-    {
-        let key = self.key(p);
-        self.swept = false;
-        self.root.put(key, Entry::Tile(cell))?;
-        Ok(())
-    }
-
     /// Splits the tile under p's key: makes an upper node with that tile's cell all over. Returns the node's slot.
     pub(crate) fn split_root(&mut self, p: Coord, cell: Cell<V>) -> Result<u32, TreeRefusal>
         requires tiled { root_entry (bits_of U L F) self.old p ≡ Tile cell }

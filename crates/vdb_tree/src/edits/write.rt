@@ -248,14 +248,13 @@ impl<
         ensures there { (slot : ℕ) → root_entry (bits_of U L F) self.old p ≡ Child slot → (result ≡ Ok slot) × (self.new ≡ self.old) }
         ensures memory { IfErr result (λ refusal. refusal ≡ Memory) }
     {
-        let cell = match self.root_entry(p) {
-            Entry::Child(slot) => return Ok(slot),
-            Entry::Tile(cell) => cell,
-        };
-        if self.root.get(self.key(p)).is_none() {
-            self.enter(p, cell)?;
+        match self.root_entry(p) {
+            Entry::Child(slot) => Ok(slot),
+            Entry::Tile(cell) => {
+                self.enter_root_block(p)?;
+                self.split_root(p, cell)
+            }
         }
-        self.split_root(p, cell)
     }
 
     /// Returns the slot of the lower node around p. If p has none, this makes one.

@@ -107,6 +107,6 @@ impl<
         ensures lowers { Turns (block_number (bits_of U L F) Upper) p (lower_entry (bits_of U L F) self.old) (lower_entry (bits_of U L F) self.new) (Tile cell) }
     {
         let _ = was;
-        self.set_root_tile(p, cell);
+        self.paint_root_tile(p, cell);
     }
 }

@@ -11,5 +11,6 @@ loop-key-smaller g c = fewer_past c.args.self.now c.loop-key.passed c.in-Some.ke
 
 pub loop-key-preserved : goal.loop-key-preserved
 loop-key-preserved g c =
-    copied_next c.args.self.now c.loop-key.copy c.put.new.self c.loop-key.passed c.in-Some.key c.in-Some-get.entry c.loop-key.invariant c.in-Some.ensures (sym c.get.ensures ∙ c.in-Some-get.is)
-    c.in_ok-put.ensures.ok c.in_ok-put.ensures.size c.in_ok-put.ensures.apart
+    let none = c.loop-key.invariant.ahead c.in-Some.key c.in-Some.ensures.1 in
+    copied_next c.args.self.now c.loop-key.copy c.enter.new.self c.loop-key.passed c.in-Some.key c.in-Some-get.entry c.loop-key.invariant c.in-Some.ensures (sym c.get.ensures ∙ c.in-Some-get.is)
+    (rw none at c.in_ok-enter.ensures.ok) (rw none at c.in_ok-enter.ensures.size) c.in_ok-enter.ensures.apart

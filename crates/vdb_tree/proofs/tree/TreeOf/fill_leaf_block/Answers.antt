@@ -1,10 +1,71 @@
-use Rattle.vdb_tree.proofs.Common.{◌≡◌, ◌∙◌, ap, arith, subst, Err, common_steps, block_around, Box, Bits, Leaf, fill, bits_of, field_of, ObeysLimit}
+use Rattle.vdb_tree.proofs.Common.{◌≡◌, ◌≢◌, ◌≤◌, ◌∙◌, ap, arith, refl, rules, subst, sym, Err, common_steps, fits_everywhere, block_around, Leaf, Tile, Field, fill, bits_of, field_of, lower_entry, roots, Memory, RootLimit}
+use Rattle.vdb_tree.proofs.Blocks.{never}
+use Rattle.vdb_tree.proofs.Needed.{child_of}
+use Rattle.vdb_tree.proofs.Splits.{keeps_twice}
+use Rattle.vdb_tree.proofs.Uniform.{cell_exact, cell_same, exact_by}
+use Rattle.vdb_tree.proofs.Writes.{full_outcome, kept_outcome, leaf_has_capacity, tile_field_cell}
+use Rattle.vdb_tree.proofs.WrittenLeaves.{fill_altered, fill_differs, filled_field, tile_field}
 use Rattle.vdb_tree.proofs.tree.TreeOf.fill_leaf_block.Goals as goal
+use Rattle.vdb_tree.proofs.tree.TreeOf.fill_leaf_block.Goals.{in-Tile+else-eq, in_default}
 
-pub returns-in_err-split-clause-outcome : goal.returns-in_err-split-clause-outcome
-returns-in_err-split-clause-outcome g c =
+pub returns-then-eq-clause-outcome : goal.returns-then-eq-clause-outcome
+returns-then-eq-clause-outcome g c =
     let bits = bits_of g.row.U g.row.L g.row.F in
-    let block : c.block_in-bounds.result ≡ block_around bits Leaf c.args.p = c.block_in-bounds.ensures ∙ ap (λ (b : Bits). block_around b Leaf c.args.p) c.bits.ensures.value in
-    let refused : c.from_residual.result ≡ Err c.in_err-split.field-0.0 = grind (arith, common_steps, c.from_residual.ensures) in
-    let limit = subst (λ (box : Box). ObeysLimit g.V.PartialEq.eq bits c.args.self.now.limit (fill box c.args.cell (field_of bits c.args.self.now)) (Err c.in_err-split.field-0.0)) block c.in_err-split.ensures.limit in
-    rw refused (c.split.ensures.field, limit)
+    let t = c.args.self.now in
+    let exact = exact_by g.V.PartialEq.eq g.V.Ord.cmp g.met.V.Ord.matches_eq g.met.V.Voxel.exact in
+    let is = cell_exact g.V.PartialEq.eq exact g.met.V.Eq.laws.refl c.in-Tile.tile c.args.cell (sym c.eq.ensures ∙ c.if-eq.true) in
+    let stands = tile_field bits c.args.p c.args.cell t (c.leaf_entry.ensures.value ∙ c.in-Tile.is ∙ ap Tile is) in
+    (stands, subst (λ (f : Field g.row.V.Denot). roots g.V.PartialEq.eq bits f ≤ t.limit) stands c.keeps_to_limit.ensures.kept)
+
+pub returns-in_err-make_capacity-clause-outcome : goal.returns-in_err-make_capacity-clause-outcome
+returns-in_err-make_capacity-clause-outcome g c =
+    let bits = bits_of g.row.U g.row.L g.row.F in
+    let t = c.args.self.now in
+    let exact = exact_by g.V.PartialEq.eq g.V.Ord.cmp g.met.V.Ord.matches_eq g.met.V.Voxel.exact in
+    let inside = fits_everywhere c.args.p (search rules) (search rules) (search rules) in
+    let full : c.from_residual.result ≡ Err RootLimit = grind (arith, common_steps, c.from_residual.ensures, c.in_err-make_capacity.ensures.full.0) in
+    let other : (field_of bits t).cell c.args.p ≢ c.args.cell = elim c.match-leaf_entry.branch [
+      | in-Tile+else-eq w ↦ λ is.
+          let at = tile_field_cell bits t c.args.p w.in-Tile.tile inside (c.leaf_entry.ensures.value ∙ w.in-Tile.is) in
+          never w.if-eq.false (w.eq.ensures ∙ cell_same g.V.PartialEq.eq exact g.met.V.Eq.laws.refl w.in-Tile.tile c.args.cell (sym at ∙ is))
+      | in_default w ↦ absurd (never refl (c.in_err-make_capacity.ensures.there (leaf_has_capacity bits t c.args.p _ (c.leaf_entry.ensures.value ∙ w.in_default.is))).0)
+    ] in
+    full_outcome bits g.V.PartialEq.eq t c.make_capacity.new.self (fill (block_around bits Leaf c.args.p) c.args.cell (field_of bits t)) _ full c.make_capacity.ensures.keeps
+    (c.in_err-make_capacity.ensures.full.1 _ (fill_altered bits c.args.p c.args.cell (field_of bits t)) (fill_differs bits c.args.p c.args.cell (field_of bits t) inside other))
+
+pub returns-in_err-make_capacity-clause-there : goal.returns-in_err-make_capacity-clause-there
+returns-in_err-make_capacity-clause-there g c = λ h.
+    let bits = bits_of g.row.U g.row.L g.row.F in
+    let over = child_of (lower_entry bits c.args.self.now c.args.p) h in
+    absurd (never refl (c.in_err-make_capacity.ensures.there (leaf_has_capacity bits c.args.self.now c.args.p over.0 over.1)).0)
+
+pub returns-in_err-upper-clause-outcome : goal.returns-in_err-upper-clause-outcome
+returns-in_err-upper-clause-outcome g c =
+    let bits = bits_of g.row.U g.row.L g.row.F in
+    let t = c.args.self.now in
+    let keeps = keeps_twice bits t c.make_capacity.new.self c.upper_around.new.self c.make_capacity.ensures.keeps c.upper_around.ensures.keeps in
+    let memory : c.from_residual-in_err-upper.result ≡ Err Memory = grind (arith, common_steps, c.from_residual-in_err-upper.ensures, c.in_err-upper.ensures.memory) in
+    kept_outcome bits g.V.PartialEq.eq t c.upper_around.new.self _ _ memory keeps
+    (c.in_ok-make_capacity.ensures.within _ (fill_altered bits c.args.p c.args.cell (field_of bits t)))
+
+pub returns-in_err-lower-clause-outcome : goal.returns-in_err-lower-clause-outcome
+returns-in_err-lower-clause-outcome g c =
+    let bits = bits_of g.row.U g.row.L g.row.F in
+    let t = c.args.self.now in
+    let swept = c.make_capacity.new.self in
+    let mid = c.lower_in.new.self in
+    let keeps = keeps_twice bits t swept mid c.make_capacity.ensures.keeps (keeps_twice bits swept c.upper_around.new.self mid c.in_ok-upper.ensures.keeps c.lower_in.ensures.keeps) in
+    let memory : c.from_residual-in_err-lower.result ≡ Err Memory = grind (arith, common_steps, c.from_residual-in_err-lower.ensures, c.in_err-lower.ensures.memory) in
+    kept_outcome bits g.V.PartialEq.eq t mid _ _ memory keeps
+    (c.in_ok-make_capacity.ensures.within _ (fill_altered bits c.args.p c.args.cell (field_of bits t)))
+
+pub returns-clause-outcome : goal.returns-clause-outcome
+returns-clause-outcome g c =
+    let bits = bits_of g.row.U g.row.L g.row.F in
+    let t = c.args.self.now in
+    let swept = c.make_capacity.new.self in
+    let mid = c.lower_in.new.self in
+    let keeps = keeps_twice bits t swept mid c.make_capacity.ensures.keeps (keeps_twice bits swept c.upper_around.new.self mid c.in_ok-upper.ensures.keeps c.in_ok-lower.ensures.keeps) in (
+      filled_field bits c.args.p c.args.cell t mid c.fill_leaf.new.self keeps c.fill_leaf.ensures.fills,
+      c.in_ok-make_capacity.ensures.within _ (fill_altered bits c.args.p c.args.cell (field_of bits t)),
+    )

@@ -1,4 +1,5 @@
-use Rattle.vdb_tree.proofs.Common.{◌≡◌, ◌<◌, true, false, rules, is_none, key, both, min_inside, bits_of, root_at}
+use Rattle.vdb_tree.proofs.Common.{◌≡◌, ◌<◌, true, false, arith, rules, is_none, key, both, min_inside, bits_of, root_at}
+use Rattle.vdb_tree.proofs.Capacities.{capacity_of_few}
 use Rattle.vdb_tree.proofs.CapacityWalks.{CountsWith, counts_all, counts_full, counts_held, counts_more, counts_next, counts_none, none_from, some_from}
 use Rattle.vdb_tree.proofs.tree.TreeOf.has_capacity_for.Goals as goal
 use Rattle.vdb_tree.proofs.tree.TreeOf.has_capacity_for.Goals.{then-is_none+else-capacity-eq0, else-is_none}
@@ -53,3 +54,9 @@ returns-in-None-clause-capacity g c = λ _.
           rw w.capacity-is (counts_held bits c.args.bounds t p before c.loop-self.invariant.0 (some_from (root_at t.root (key bits p)) (let h : is_none c.get.result ≡ false = search rules in rw at at h)))
     ] in
     counts_all bits c.args.bounds t p c.if-is_none.capacity with c.in-None.ensures.next
+
+pub returns-then-blocks_meeting_in-capacity-clause-capacity : goal.returns-then-blocks_meeting_in-capacity-clause-capacity
+returns-then-blocks_meeting_in-capacity-clause-capacity g c = λ _.
+    let bits = bits_of g.row.U g.row.L g.row.F in
+    let few = rw (c.blocks_meeting_in.ensures, c.bits.ensures.value, c.len.ensures) at c.if-blocks_meeting_in-capacity.true in
+    rw (← c.self.view_is) (capacity_of_few bits _ c.args.bounds (both _ _ c.min-p.ensures.bounds).1 (let limit = c.self.invariant.1.limit in omega (arith, few, limit)))

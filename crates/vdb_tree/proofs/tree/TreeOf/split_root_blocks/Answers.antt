@@ -1,7 +1,7 @@
 use Rattle.vdb_tree.proofs.Common.{◌≡◌, ◌≢◌, IsTrue, Some, None, Option, subst, IfSome, key, is_inside, Coord, Upper, bits_of, root_at, IsSplitTo, IsNextMet, IsCut}
 use Rattle.vdb_tree.proofs.KeysPast.{fewer_beyond}
 use Rattle.vdb_tree.proofs.MadeNodes.{keys_twice, makes_twice}
-use Rattle.vdb_tree.proofs.SplitTiles.{next_at_first, roots_end, roots_next, roots_none}
+use Rattle.vdb_tree.proofs.SplitTiles.{split_within, next_at_first, roots_end, roots_next, roots_none}
 use Rattle.vdb_tree.proofs.Splits.{adds_twice}
 use Rattle.vdb_tree.proofs.tree.TreeOf.split_root_blocks.Goals as goal
 
@@ -65,3 +65,7 @@ returns-in-None-clause-made g c =
 
 pub returns-in-None-clause-keys : goal.returns-in-None-clause-keys
 returns-in-None-clause-keys g c = keys_twice c.args.self.now c.loop-key.self c.split_next_root.new.self c.loop-key.invariant.keys c.in_ok-key.ensures.keys
+
+pub returns-then-covers_roots-clause-edges : goal.returns-then-covers_roots-clause-edges
+returns-then-covers_roots-clause-edges g c = λ q inside _.
+    split_within (bits_of g.row.U g.row.L g.row.F) c.args.bounds c.args.cell Upper c.args.self.now q (c.covers_roots.ensures c.if-covers_roots.true q inside)
