@@ -3,13 +3,15 @@
 ghost use Rattle.std.specs.Prelude.{◌≡◌, ◌<◌, false, Err, IfErr, IfOk, OnOk, Some};
 ghost use Rattle.std.specs.Int.{w16, to_be_bytes};
 ghost use Rattle.vdb_coord.specs.Blocks.{block_around, entries, entry_numbers, vdb};
+ghost use Rattle.vdb_coord.specs.declared.Level.TheVariants.{Upper};
 ghost use Rattle.vdb_tree.specs.ConstantBlocks.{is_constant};
+ghost use Rattle.vdb_tree.specs.Field.{fill as filled};
 ghost use Rattle.vdb_tree.specs.Layout.{field_of};
 ghost use Rattle.vdb_tree.specs.Parts.{IsNextAbove};
 ghost use Rattle.vdb_file.specs.Bodies.{listed};
 ghost use Rattle.vdb_file.specs.internal.FieldFaults.{IsInner};
 ghost use Rattle.vdb_file.specs.internal.Levels.{inner_body, level_body};
-ghost use Rattle.vdb_file.specs.internal.LoadedFields.{AreLoadable, IsNext, IsLoadable, KeptOutside, ShowsIn, ShowsInEach, entry_box, next_bytes};
+ghost use Rattle.vdb_file.specs.internal.LoadedFields.{AreLoadable, HasCapacityAt, IsNext, IsLoadable, KeptOutside, ShowsIn, ShowsInEach, entry_box, next_bytes};
 ghost use Rattle.vdb_file.specs.internal.Loading.{IsIndex};
 ghost use Rattle.vdb_file.specs.internal.Reading.{EndsWith, Moves, Reads, ahead};
 ghost use Rattle.vdb_file.specs.internal.Written.{numbered};
@@ -17,12 +19,14 @@ ghost use Rattle.vdb_file.specs.internal.Written.{numbered};
 use crate::fault::LoadFault;
 use crate::loading::block_head::{Head, take_entry_number, take_head};
 use crate::loading::input::Input;
-use crate::loading::leaf_blocks::{fill_block, take_leaf_block};
+use crate::loading::leaf_blocks::take_leaf_block;
 use crate::loading::source::Source;
 use vdb_coord::{Bits, Coord, Level};
 use vdb_pool::Steps;
+use vdb_region::fill;
 use vdb_scene::GridValue;
-use vdb_tree::Tree;
+use vdb_tree::{Tree, TreeRefusal};
+use vdb_value::Cell;
 
 /// Returns the least corner of an entry of the level's block around a coordinate.
 fn entry_corner(p: Coord, level: Level, i: u16) -> Coord
@@ -55,6 +59,28 @@ pub(crate) fn take_block<V: GridValue, S: Source>(
         Level::Leaf => take_leaf_block(p, tree, input, reader, steps),
         Level::Lower => take_inner(Level::Lower, Level::Leaf, p, tree, input, reader, steps),
         Level::Upper => take_inner(Level::Upper, Level::Lower, p, tree, input, reader, steps),
+    }
+}
+
+/// Gives one cell to the level's block around a coordinate. The table has room for its root block, so an error can only be an
+/// allocation failure.
+fn fill_block<V: GridValue>(
+    level: Level,
+    p: Coord,
+    cell: Cell<V>,
+    tree: &mut Tree<V>,
+    steps: &mut Steps,
+) -> Result<(), LoadFault>
+    requires { HasCapacityAt V.eq vdb tree.old.limit (block_around vdb Upper p) (field_of vdb tree.old) }
+    ensures memory { IfErr result (λ fault. fault ≡ LoadFault.Memory) }
+    ensures field { OnOk result (field_of vdb tree.new ≡ filled (block_around vdb level p) cell (field_of vdb tree.old)) }
+    ensures limit { OnOk result (tree.new.limit ≡ tree.old.limit) }
+{
+    let bounds = p.block(level);
+    match fill(tree, bounds, cell, steps) {
+        Ok(()) => Ok(()),
+        Err(TreeRefusal::Memory) => Err(LoadFault::Memory),
+        Err(TreeRefusal::RootLimit) => unreachable!(), // the root block has capacity
     }
 }
 

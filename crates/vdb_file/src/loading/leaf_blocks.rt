@@ -3,7 +3,6 @@
 ghost use Rattle.std.specs.Prelude.{◌≡◌, Err, IfErr, OnOk};
 ghost use Rattle.vdb_coord.specs.Blocks.{block_around, vdb};
 ghost use Rattle.vdb_coord.specs.declared.Level.TheVariants.{Leaf as leaf_level, Upper};
-ghost use Rattle.vdb_tree.specs.Field.{fill as filled};
 ghost use Rattle.vdb_tree.specs.Layout.{field_of};
 ghost use Rattle.vdb_tree.specs.Leaves.{with_leaf};
 ghost use Rattle.vdb_file.specs.Bodies.{leaf_body};
@@ -20,32 +19,8 @@ use crate::loading::source::Source;
 use vdb_coord::{Coord, Level};
 use vdb_node::Leaf;
 use vdb_pool::Steps;
-use vdb_region::fill;
 use vdb_scene::GridValue;
 use vdb_tree::{Tree, TreeRefusal};
-use vdb_value::Cell;
-
-/// Gives one cell to the level's block around a coordinate. The table has room for its root block, so an error can only be an
-/// allocation failure.
-pub(crate) fn fill_block<V: GridValue>(
-    level: Level,
-    p: Coord,
-    cell: Cell<V>,
-    tree: &mut Tree<V>,
-    steps: &mut Steps,
-) -> Result<(), LoadFault>
-    requires { HasCapacityAt V.eq vdb tree.old.limit (block_around vdb Upper p) (field_of vdb tree.old) }
-    ensures memory { IfErr result (λ fault. fault ≡ LoadFault.Memory) }
-    ensures field { OnOk result (field_of vdb tree.new ≡ filled (block_around vdb level p) cell (field_of vdb tree.old)) }
-    ensures limit { OnOk result (tree.new.limit ≡ tree.old.limit) }
-{
-    let bounds = p.block(level);
-    match fill(tree, bounds, cell, steps) {
-        Ok(()) => Ok(()),
-        Err(TreeRefusal::Memory) => Err(LoadFault::Memory),
-        Err(TreeRefusal::RootLimit) => unreachable!(), // the root block has capacity
-    }
-}
 
 /// Gives the cells of a leaf to the leaf extent around a coordinate. The table has room for its root block, so an error can only
 /// be an allocation failure.
@@ -108,7 +83,12 @@ pub(crate) fn take_leaf_block<V: GridValue, S: Source>(
     ensures inner { IfErr result IsInner }
 {
     match take_head(tree.background(), VOXELS, input, reader)? {
-        Head::One(cell) => fill_block(Level::Leaf, p, cell, tree, steps),
+        Head::One(cell) => {
+            let Ok(leaf) = Leaf::new_constant(tree.alloc(), cell) else {
+                return Err(LoadFault::Memory);
+            };
+            write_leaf_block(p, &leaf, tree, steps)
+        }
         Head::Node(count) => take_leaf(p, count, tree, input, reader, steps),
     }
 }

@@ -1,6 +1,6 @@
 use Rattle.vdb_file.proofs.Common.{◌∙◌, ap, subst, Err, block_around, vdb, Box, Upper, fill, cell_at, field_of, IsOutcome}
 use Rattle.vdb_file.proofs.LoadedBlocks.{fill_keeps, in_upper, kept_wider, no_root_limit}
-use Rattle.vdb_file.proofs.loading.leaf_blocks.fill_block.Goals as goal
+use Rattle.vdb_file.proofs.loading.blocks.fill_block.Goals as goal
 
 pub unreachable-requires : goal.unreachable-requires
 unreachable-requires g c =
