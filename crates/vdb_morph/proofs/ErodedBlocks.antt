@@ -38,10 +38,6 @@ module _ {V : Type 0} (f : Field V) where
       and_more (f.cell q).on (list_all (λ x. state_behind f x q) (take i faces)) (state_behind f (get_or faces i face) q)
       ∙ ap (λ b. (f.cell q).on && b) (sym (list_all_more (λ x. state_behind f x q) faces i face few))
 
-  -- an inactive voxel stays inactive
-  pub off_eroded : (q : Coord) → IsTrue (is_inside everywhere q) → (f.cell q).on ≡ false → ((erode f).cell q).on ≡ false
-  off_eroded q inside e = sym (eroded_is q inside) ∙ ap (λ b. b && list_all (λ face. state_behind f face q) faces) e
-
 module _ {V : Type 0} (bits : Bits) (configured : AreBits bits) (f : Field V) (face : Face) (p : Coord) where
   -- the voxel behind the face of a voxel of p's block, if it leaves that block, lies in the block behind the block's face
   next_block : (q : Coord) → IsTrue (is_around bits p q) → is_around bits q (toward face q) ≡ false → block_number bits Leaf (toward face q) ≡ toward face (block_number bits Leaf p)

@@ -1,5 +1,5 @@
 -- A field of states after marks are added to a leaf extent.
-use Rattle.vdb_morph.proofs.Common.{◌≡◌, ◌≢◌, ◌∙◌, sym, refl, ap, ◌<◌, ℕ, Bool, true, false, ◌&&◌, ◌||◌, cond, List, IsTrue, inl, inr, slice_index_or, Result, Ok, Err, block_number, offset, coord_eq, everywhere, is_inside, Bits, Coord, Leaf, entries_is, offset_below, is_on, IsConstantLeaf, entry_count, Cell, Field, field, off, unite, IsLeafAround, with_leaf, TreeRefusal, cell_inside, same_cells, coord_cases, like_coords, unlike_coords, is_marked, topology, with_active}
+use Rattle.vdb_morph.proofs.Common.{◌≡◌, ◌≢◌, ◌∙◌, sym, refl, ap, ◌<◌, ℕ, Bool, true, false, not, ◌&&◌, ◌||◌, cond, List, IsTrue, inl, inr, slice_index_or, Result, Ok, Err, block_number, offset, coord_eq, everywhere, is_inside, Bits, Coord, Leaf, entries_is, offset_below, is_on, IsConstantLeaf, entry_count, Cell, Field, field, off, unite, IsLeafAround, with_leaf, TreeRefusal, cell_inside, same_cells, coord_cases, like_coords, unlike_coords, is_marked, topology, with_active}
 use Rattle.std.specs.Prelude.{IsOk}
 use Rattle.vdb_node.specs.Leaf.{Leaf as LeafOf}
 use Rattle.vdb_tree.specs.Field.{new}
@@ -22,6 +22,12 @@ kept_cell x t e = ap (λ s. record { value = x.value; on = s }) (sym (or_false x
     or_false : (s t : Bool) → t ≡ false → (s || t) ≡ s
     or_false true t e = refl
     or_false false t e = e
+
+-- a state stays if nothing else is marked
+on_before : (s t : Bool) → (t && not s) ≡ false → s ≡ (s || t)
+on_before true t e = refl
+on_before false true e = sym e
+on_before false false e = refl
 
 module _ {V : Type 0} (bits : Bits) (p : Coord) (marks : List Bool) (background : V) (cells : Coord → Cell V) where
   abbrev f : Field V
@@ -58,6 +64,16 @@ module _ {V : Type 0} (bits : Bits) (p : Coord) (marks : List Bool) (background 
   pub unmarked : ((i : ℕ) → is_on marks i ≡ false) → f ≡ with_active (is_marked bits p marks) f
   unmarked none = marked_by cells
       (λ q inside e. sym (cell_inside background cells q inside) ∙ kept_cell (f.cell q) (is_on marks (offset bits Leaf q)) (none (offset bits Leaf q)))
+      (λ q inside d. sym (cell_inside background cells q inside))
+
+  -- each mark is on in the block's leaf
+  pub marked_before : (leaf : LeafOf V) → IsLeafAround bits f p leaf → ((i : ℕ) → (is_on marks i && not (is_on leaf.states i)) ≡ false) → f ≡ with_active (is_marked bits p marks) f
+  marked_before leaf around none = marked_by cells
+      (λ q inside e.
+      let i = offset bits Leaf q in
+      let state = ap (λ (c : Cell V). c.on) (around q inside e) in
+      sym (cell_inside background cells q inside)
+      ∙ ap (λ s. record { value = (f.cell q).value; on = s }) (state ∙ on_before (is_on leaf.states i) (is_on marks i) (none i) ∙ ap (λ s. s || is_on marks i) (sym state)))
       (λ q inside d. sym (cell_inside background cells q inside))
 
   -- the marks join the states of the block's leaf

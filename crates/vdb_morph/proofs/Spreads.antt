@@ -72,11 +72,7 @@ module _ (bits : Bits) (p : Coord) (mask : List Bool) where
               ]
         ]
 
-    -- no voxel, if the mask is all off
-    pub over_off : ((i : ℕ) → is_on over i ≡ false) → (q : Coord) → is_over bits p mask face q ≡ false
-    over_off none_over q = elim (over_cases q) [ inl h ↦ h.1 ∙ none_over _ | inr h ↦ h.0 ]
-
-    -- and none in the range, if no such block exists
+    -- no voxel in the range, if no such block exists
     pub over_beyond : is_inside (block_numbers bits Leaf) (toward (opposite face) (block_number bits Leaf p)) ≡ false
         → (q : Coord) → IsTrue (is_inside everywhere q) → is_over bits p mask face q ≡ false
     over_beyond out q inside =

@@ -76,8 +76,7 @@ fn spread_voxels(
     if bounds != corner.block(Level::Leaf) {
         return spread_box(states, bounds, steps);
     }
-    let marks = Mask::filled(true);
-    spread_block(states, corner, &marks, steps)
+    spread_block(states, corner, &Mask::filled(true), steps)
 }
 
 /// Activates the face neighbours of the active voxels of p's leaf extent. `walk` is a walk over the tree. If the walk is in that

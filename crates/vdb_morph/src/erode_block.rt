@@ -43,9 +43,6 @@ fn eroded_states<V: Stored<512> + Stored<64> + Stored<8>>(
     ensures { HasStates vdb (erode (field_of vdb tree.now)) p result }
 {
     let own = states_at(tree, p, steps);
-    if own.all_off() {
-        return own;
-    }
     let mut left = own.copied();
     for face in Face::ALL {
         narrow(tree, p, face, &own, &mut left, steps);
@@ -66,6 +63,9 @@ fn narrow<V: Stored<512> + Stored<64> + Stored<8>>(
     ensures { (q : Coord) → IsTrue (is_inside everywhere q) → IsTrue (is_around vdb p q)
         → is_on left.new (offset vdb leaf_level q) ≡ (is_on left.old (offset vdb leaf_level q) && state_behind (field_of vdb tree.now) face q) }
 {
+    if left.all_off() {
+        return;
+    }
     let other = states_behind(tree, p, face, steps);
     left.both(&beside(own, &other, face));
 }

@@ -43,9 +43,6 @@ fn spread_over(
     ensures { IsOk result → field_of vdb states.new ≡ with_active (is_over vdb p marks.now face) (field_of vdb states.old) }
 {
     let over = beside(&Mask::off(), marks, face);
-    if over.all_off() {
-        return Ok(());
-    }
     match block_behind(p, opposite(face)) {
         Some(r) => mark(states, r, &over, steps),
         None => Ok(()),

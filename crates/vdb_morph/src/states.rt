@@ -43,6 +43,11 @@ pub(crate) fn mark(
     }
     match states.leaf(p, steps) {
         Some(leaf) => {
+            let mut added = marks.copied();
+            added.minus(leaf.states());
+            if added.all_off() {
+                return Ok(());
+            }
             let mut joined = leaf.states().copied();
             joined.union(marks);
             states.set_states(p, &joined, steps);

@@ -1,5 +1,5 @@
 -- The states of a field alone, and how they grow and shrink part by part.
-use Rattle.std.specs.Prelude.{ℕ, Bool, false, ◌&&◌, ◌||◌, if◌then◌else◌, List}
+use Rattle.std.specs.Prelude.{Bool, false, ◌&&◌, ◌||◌, if◌then◌else◌, List}
 use Rattle.std.specs.List.{list_any}
 use Rattle.vdb_coord.specs.Blocks.{block_number, offset}
 use Rattle.vdb_coord.specs.Faces.{neighbours}

@@ -1,12 +1,7 @@
 -- Face by face.
-use Rattle.vdb_morph.proofs.Common.{◌≡◌, ap, ◌∙◌, refl, sym, arith, get_or, take, ℕ, Bool, List, ◌&&◌, offset, vdb, faces, Leaf, MinusX, is_on, field_of, state_behind}
-use Rattle.vdb_morph.proofs.ErodedBlocks.{eroded_is, off_eroded, stays_by, stays_first, stays_more}
+use Rattle.vdb_morph.proofs.Common.{◌≡◌, ap, ◌∙◌, arith, get_or, take, ℕ, Bool, List, ◌&&◌, offset, vdb, faces, Leaf, MinusX, is_on, field_of, state_behind}
+use Rattle.vdb_morph.proofs.ErodedBlocks.{eroded_is, stays_by, stays_first, stays_more}
 use Rattle.vdb_morph.proofs.erode_block.eroded_states.Goals as goal
-
-pub returns-then-all_off : goal.returns-then-all_off
-returns-then-all_off g c = λ q inside around.
-    let none = c.if-all_off.ensures.0 refl (offset vdb Leaf q) in
-    none ∙ sym (off_eroded (field_of vdb c.args.tree.now) q inside (sym (c.states_at-own.ensures q inside around) ∙ none))
 
 pub loop-face-init : goal.loop-face-init
 loop-face-init g c = λ q inside around.

@@ -1,14 +1,8 @@
 -- The voxels over a face, by the mask of the block behind the opposite face.
-use Rattle.vdb_morph.proofs.Common.{ap, ◌∙◌, refl, sym, fun_ext, vdb, cell_at, field_of, opposite, with_active}
+use Rattle.vdb_morph.proofs.Common.{ap, ◌∙◌, refl, sym, fun_ext, vdb, cell_at, field_of, with_active}
 use Rattle.vdb_morph.proofs.Activating.{active_nowhere}
-use Rattle.vdb_morph.proofs.Spreads.{over_beyond, over_is, over_off}
+use Rattle.vdb_morph.proofs.Spreads.{over_beyond, over_is}
 use Rattle.vdb_morph.proofs.spread_block.spread_over.Goals as goal
-
-pub returns-then-all_off : goal.returns-then-all_off
-returns-then-all_off c = λ _.
-    let t = c.args.states.now in
-    sym (active_nowhere t.background (cell_at vdb t) _ (λ q _.
-    over_off vdb c.args.p c.args.marks.now c.off.result c.beside-over.result c.args.face c.off.ensures c.beside-over.ensures (c.if-all_off.ensures.0 refl) q))
 
 pub returns-in-Some : goal.returns-in-Some
 returns-in-Some c = λ ok.
