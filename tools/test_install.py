@@ -165,7 +165,7 @@ class Packages(unittest.TestCase):
     def test_they_hold_what_is_installed_and_the_licence(self):
         made, root = packages()
         self.assertEqual({*made}, {"libvdb1", "libvdb-dev", "vdb-tools", "python3-vdb"})
-        licences = {f"usr/share/doc/{name}/copyright": (TOP / "LICENSE").read_bytes() for name in made}
+        licences = {f"usr/share/doc/{name}/copyright": (TOP / "NOTICE").read_bytes() for name in made}
         self.assertEqual(files(root), {**files(installed()), **licences})
 
     def test_the_fields(self):
@@ -220,7 +220,8 @@ class Release(unittest.TestCase):
         self.assertEqual(done(["sha256sum", "-c", "SHA256SUMS"], cwd=release()).split(), [f"{self.archive().name}:", "OK", "PROVENANCE.json:", "OK"])
         names = {it.partition("/")[2] for it in done(["tar", "-tf", self.archive()]).splitlines()}
         wheel = f"wheel/vdb-{VERSION}-py3-none-linux_x86_64.whl"
-        wanted = {"bin/vdb", "include/vdb.h", f"lib/libvdb.so.{VERSION}", "lib/libvdb.a", "lib/static/libvdb_c.a", wheel, "LICENSE", "PROVENANCE.json"}
+        wanted = {"bin/vdb", "include/vdb.h", f"lib/libvdb.so.{VERSION}", "lib/libvdb.a", "lib/static/libvdb_c.a", wheel}
+        wanted |= {"LICENSE", "NOTICE", "CHANGELOG.md", "PROVENANCE.json"}
         self.assertEqual(wanted - names, set())
 
     def test_the_program_answers_and_a_program_links_the_archives(self):
@@ -287,7 +288,8 @@ class Sources(unittest.TestCase):
         bare = [name for name in names if is_source(name) and SPDX not in (TOP / name).read_text(encoding="utf-8").split("\n\n")[0]]
         self.assertEqual(bare, [])
         self.assertGreater(len([name for name in names if is_source(name)]), 100)
-        self.assertRegex((TOP / "LICENSE").read_text(encoding="utf-8"), rf"^{SPDX}\n\nCopyright 20\d\d The Suqtaveng authors\n")
+        self.assertRegex((TOP / "NOTICE").read_text(encoding="utf-8"), rf"^{SPDX}\n\nCopyright 20\d\d The Suqtaveng authors\n")
+        self.assertIn("Apache License\n                           Version 2.0, January 2004\n", (TOP / "LICENSE").read_text(encoding="utf-8"))
 
 
 def is_source(name):
