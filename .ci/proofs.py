@@ -246,17 +246,19 @@ def has(*paths):
 def main():
     anew = "--anew" in sys.argv[1:]
     os.chdir(TOP)
+    words = ["ci", *(["--anew"] if anew else [])]  # of a kit that keeps what it proves
     count_seconds()
     if has("in_lanes", "processors", "free", "Crate.prove"):
         rt.in_lanes, rt.Crate.prove = in_lanes, with_archive(rt.Crate.prove)
         if has("Crate.ci", "put_back") and not has("ending"):  # later kits have that, and keep what they prove
             rt.Crate.ci, rt.put_back = kept_or(rt.Crate.ci, anew), without_libraries(rt.put_back)
+            status = rt.main(["ci"])
         else:
             print("rt itself keeps what it proves", flush=True)
-        status = rt.main(["ci"])
+            status = rt.main(words)
     else:
         print("rt itself orders the proofs: its functions have other names than this script knows", flush=True)
-        status = subprocess.run(["rt", "ci"], env={**os.environ, "RT_JOBS": str(os.cpu_count())}).returncode
+        status = subprocess.run(["rt", *words], env={**os.environ, "RT_JOBS": str(os.cpu_count())}).returncode
     status = status or build_the_rest(anew)
     kept.prune()
     sys.exit(status)

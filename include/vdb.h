@@ -126,7 +126,7 @@ typedef struct vdb_census {
 enum { VDB_BOOL = 0, VDB_I32 = 1, VDB_I64 = 2 };
 
 /* A grid has the accessors 0 to 7. Each keeps the path to the voxel that it last visited, so that the next one nearby takes
- * less time. VDB_NO_ACCESSOR starts at the root. */
+ * less time. VDB_NO_ACCESSOR names none. */
 enum { VDB_NO_ACCESSOR = -1, VDB_ACCESSORS = 8 };
 
 /* Limits. The root limit of a grid is the most root blocks that may have a cell other than the background, inactive. */

@@ -38,7 +38,7 @@ def figures(parts):
 
 
 def save(folder, parts, order):
-    """Writes results.json, results.csv, results.md and chart.svg."""
+    """Writes results.json, results.csv, results.txt and chart.svg."""
     parts = {name: parts[name] for name in order if name in parts}
     try:
         os.makedirs(folder, exist_ok=True)
@@ -48,6 +48,6 @@ def save(folder, parts, order):
             rows.writerow(["part", "table", "row", "unit", "series", "run", "figure"])
             rows.writerows(figures(parts))
         replace(f"{folder}/chart.svg", chart.draw(parts))
-        replace(f"{folder}/results.md", tables.page(parts))
+        replace(f"{folder}/results.txt", tables.page(parts))
     except OSError as error:
         raise Failed(f"{error.filename}: {error.strerror}") from None

@@ -28,8 +28,8 @@ use vdb_pool::Steps;
 use vdb_scene::{ACCESSORS, AnyGrid};
 use vdb_value::Kind;
 
-/// Sets each voxel of a box to its elements of `values` and `states`, by x, then y, then z, through an accessor or, with -1, from the
-/// root. If one of the arrays is empty, the voxels keep that part. It writes to `written` how many voxels it has set.
+/// Sets each voxel of a box to its elements of `values` and `states`, by x, then y, then z, through an accessor or, with -1, without
+/// one. If one of the arrays is empty, the voxels keep that part. It writes to `written` how many voxels it has set.
 #[unsafe(no_mangle)]
 pub extern "C" fn vdb_grid_write_box(
     handle: &mut GridHandle,

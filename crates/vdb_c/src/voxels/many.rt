@@ -23,7 +23,7 @@ use vdb_scene::{ACCESSORS, AnyGrid, Scalar};
 use vdb_tree::{Path, Tree, Write};
 use vdb_value::{Cell, Kind};
 
-/// Writes the value and the state of each voxel of `at` to `values` and `states`, through an accessor or, with -1, from the root.
+/// Writes the value and the state of each voxel of `at` to `values` and `states`, through an accessor or, with -1, without one.
 /// Each array has an element for each voxel, or is empty and not written.
 #[unsafe(no_mangle)]
 pub extern "C" fn vdb_grid_get_many(
@@ -169,7 +169,7 @@ fn read_near<V: Number>(
     }
 }
 
-/// Sets the voxels of `at`, one after another, through an accessor or, with -1, from the root: to the numbers of `values` and the
+/// Sets the voxels of `at`, one after another, through an accessor or, with -1, without one: to the numbers of `values` and the
 /// states of `states`. If one of these is empty, the voxels keep that part. It writes to `written` how many voxels it has set.
 #[unsafe(no_mangle)]
 pub extern "C" fn vdb_grid_write_many(
