@@ -18,7 +18,12 @@ SLAB, BRICK = 2**21, 2**18
 #: The accessor of calls on many voxels.
 ACCESSOR = 0
 
+#: Eight listed voxels of a row, a byte each.
+WHOLE_ROW = np.uint64(0x0101010101010101)
+
 Brick = Tuple[slice, slice, slice]
+#: Parts of an array: their first indices (n x 3) and those past the last.
+Runs = Tuple[np.ndarray, np.ndarray]
 
 
 def box_of(low: Sequence[int], high: Sequence[int]) -> Box:
@@ -143,23 +148,25 @@ def new_grid(kind: Kind, background: "Value | None", limit: int) -> Held:
 
 
 def from_dense(held: Held, low: Sequence[int], values: np.ndarray, active: "np.ndarray | None", background: Value) -> None:
-    """Writes dense arrays to an empty grid, by the leaf extents that have a voxel which is active or differs from the background."""
+    """Writes dense arrays to an empty grid, by the leaf extents that have a voxel which is active or differs from the background. It fills
+    the leaf extents of a mask (bool values without states) that have no background."""
+    is_mask = values.dtype == np.bool_ and active is None
     for part in bricks(low, values.shape, is_whole=True):
         some = values[part]
         listed = np.not_equal(some, background, out=np.empty(some.shape, np.bool_))
         states = listed if active is None else np.ascontiguousarray(active[part])
         corner = np.array([at + it.start for at, it in zip(low, part)], np.int64)
-        begins, ends = leaf_runs(corner, listed if active is None else listed | states)
+        (begins, ends), whole = leaf_runs(corner, listed if active is None else listed | states, is_mask)
+        fill_boxes(held, *(boxes_of(corner, *whole)), int(not background))
         if len(begins):
-            lows, highs = ((corner + at).astype(np.int32) for at in (begins, ends - 1))
             steps = some.shape[1] * some.shape[2], some.shape[2], 1
-            write_boxes(held, lows, highs, np.ascontiguousarray(some, np.int64), states, begins @ steps, Strides(*steps))
+            write_boxes(held, *boxes_of(corner, begins, ends), np.ascontiguousarray(some, np.int64), states, begins @ steps, Strides(*steps))
     held.call("prune")
 
 
-def leaf_runs(corner: np.ndarray, listed: np.ndarray) -> "tuple[np.ndarray, np.ndarray]":
-    """Returns the parts of an array in runs along z of leaf extents that have a listed voxel: the first indices (n x 3) and those past the
-    last. `corner` is the coordinate of `listed[0, 0, 0]`."""
+def leaf_runs(corner: np.ndarray, listed: np.ndarray, parts_whole: bool) -> "tuple[Runs, Runs]":
+    """Returns the runs along z of leaf extents that have a listed voxel, and of those that have no other. The second are among the first
+    unless they are to be parted. `corner` is the coordinate of `listed[0, 0, 0]`."""
     before, shape = corner % 8, np.array(listed.shape)
     x, y, z = ((before + shape + 7) // 8).tolist()
     if (before | shape % 8).any():
@@ -167,11 +174,35 @@ def leaf_runs(corner: np.ndarray, listed: np.ndarray) -> "tuple[np.ndarray, np.n
         padded[tuple(slice(first, past) for first, past in zip(before, before + shape))] = listed
         listed = padded
     rows = listed.view(np.uint64).reshape(x, 8, y, 8, z)
-    found = np.zeros((x, y, z + 2), np.bool_)
-    np.not_equal(np.bitwise_or.reduce(np.bitwise_or.reduce(rows, axis=3), axis=1), 0, out=found[:, :, 1:-1])
-    turns = np.argwhere(found[:, :, 1:] != found[:, :, :-1])  # a run begins at each even one and ends at the next
+    some = np.bitwise_or.reduce(np.bitwise_or.reduce(rows, axis=3), axis=1) != 0
+    whole = np.zeros_like(some)
+    if parts_whole:
+        whole = np.bitwise_and.reduce(np.bitwise_and.reduce(rows, axis=3), axis=1) == WHOLE_ROW
+    return runs(some & ~whole, before, shape), runs(whole, before, shape)
+
+
+def runs(found: np.ndarray, before: np.ndarray, shape: np.ndarray) -> Runs:
+    """Returns the runs along z of the leaf extents found, in an array of this shape that begins so many voxels past a leaf's corner."""
+    x, y, z = found.shape
+    padded = np.zeros((x, y, z + 2), np.bool_)
+    padded[:, :, 1:-1] = found
+    turns = np.argwhere(padded[:, :, 1:] != padded[:, :, :-1])  # a run begins at each even one and ends at the next
     begins, ends = turns[::2] * 8 - before, (turns[1::2] + (1, 1, 0)) * 8 - before
     return np.maximum(begins, 0), np.minimum(ends, shape)
+
+
+def boxes_of(corner: np.ndarray, begins: np.ndarray, ends: np.ndarray) -> "tuple[np.ndarray, np.ndarray]":
+    """Returns the corners of the boxes of runs, both included (n x 3, int32). The array of the runs begins at `corner`."""
+    return (corner + begins).astype(np.int32), (corner + ends - 1).astype(np.int32)
+
+
+def fill_boxes(held: Held, low: np.ndarray, high: np.ndarray, number: int) -> None:
+    """Makes the voxels of boxes, which have these corners, both included (n x 3, int32), active with a value."""
+    corners = np.array(np.concatenate([low, high], axis=1), order="C")
+    call, handle = LIBRARY.vdb_grid_fill, byref(held.handle)
+    with held.lock:
+        for box in (Box * len(corners)).from_buffer(corners.data):
+            call(handle, byref(box), number, 1)
 
 
 def write_boxes(
