@@ -8,6 +8,7 @@ import tempfile
 import threading
 import time
 import unittest
+from itertools import product
 from pathlib import Path
 from unittest import mock
 
@@ -65,6 +66,19 @@ class Arrays(unittest.TestCase):
         """Arrays that cross in several slabs and bricks, which end between leaves."""
         with mock.patch("vdb.arrays.SLAB", 700), mock.patch("vdb.arrays.BRICK", 700):
             self.test_random()
+
+    def test_masks(self):
+        """Masks with whole leaf extents, which are filled, and such that a voxel or the border of the array cuts."""
+        for low, background in product(((0, 0, 0), (-8, 16, 120), (-5, 3, 4090)), (False, True)):
+            with self.subTest(low=low, background=background):
+                mask = np.full((29, 24, 40), not background)
+                mask[9, 10, 11] = mask[:, :8, 30:] = background
+                grid, other = vdb.Grid.from_array(mask, None, low, background), vdb.Grid.from_array(mask, mask != background, low, background)
+                found, states = grid.to_array((low, tuple(at + side - 1 for at, side in zip(low, mask.shape))))
+                np.testing.assert_array_equal(found, mask)
+                np.testing.assert_array_equal(states, mask != background)
+                self.assertEqual(grid, other)
+                self.assertEqual(grid.leaf_count, other.leaf_count)
 
     def test_empty(self):
         for shape in ((0, 0, 0), (0, 5, 5), (5, 0, 5)):
