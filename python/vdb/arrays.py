@@ -157,7 +157,8 @@ def from_dense(held: Held, low: Sequence[int], values: np.ndarray, active: "np.n
         states = listed if active is None else np.ascontiguousarray(active[part])
         corner = np.array([at + it.start for at, it in zip(low, part)], np.int64)
         (begins, ends), whole = leaf_runs(corner, listed if active is None else listed | states, is_mask)
-        fill_boxes(held, *(boxes_of(corner, *whole)), int(not background))
+        if is_mask:
+            fill_boxes(held, *boxes_of(corner, *whole), int(not background))
         if len(begins):
             steps = some.shape[1] * some.shape[2], some.shape[2], 1
             write_boxes(held, *boxes_of(corner, begins, ends), np.ascontiguousarray(some, np.int64), states, begins @ steps, Strides(*steps))
