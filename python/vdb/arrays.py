@@ -5,7 +5,7 @@ from __future__ import annotations
 import math
 from ctypes import byref, c_int64, c_size_t, c_uint8
 from itertools import product
-from typing import Iterator, Sequence, Tuple
+from typing import Iterable, Iterator, Sequence, Tuple
 
 import numpy as np
 
@@ -165,9 +165,9 @@ def from_dense(held: Held, low: Sequence[int], values: np.ndarray, active: "np.n
     held.call("prune")
 
 
-def leaf_runs(corner: np.ndarray, listed: np.ndarray, parts_whole: bool) -> "tuple[Runs, Runs]":
-    """Returns the runs along z of leaf extents that have a listed voxel, and of those that have no other. The second are among the first
-    unless they are to be parted. `corner` is the coordinate of `listed[0, 0, 0]`."""
+def leaf_runs(corner: np.ndarray, listed: np.ndarray, is_mask: bool) -> "tuple[Runs, Runs]":
+    """Returns two lists of runs along z of leaf extents: those with a listed voxel, and of a mask apart those with no other voxel. `corner`
+    is the coordinate of `listed[0, 0, 0]`."""
     before, shape = corner % 8, np.array(listed.shape)
     x, y, z = ((before + shape + 7) // 8).tolist()
     if (before | shape % 8).any():
@@ -177,7 +177,7 @@ def leaf_runs(corner: np.ndarray, listed: np.ndarray, parts_whole: bool) -> "tup
     rows = listed.view(np.uint64).reshape(x, 8, y, 8, z)
     some = np.bitwise_or.reduce(np.bitwise_or.reduce(rows, axis=3), axis=1) != 0
     whole = np.zeros_like(some)
-    if parts_whole:
+    if is_mask:
         whole = np.bitwise_and.reduce(np.bitwise_and.reduce(rows, axis=3), axis=1) == WHOLE_ROW
     return runs(some & ~whole, before, shape), runs(whole, before, shape)
 
@@ -197,12 +197,17 @@ def boxes_of(corner: np.ndarray, begins: np.ndarray, ends: np.ndarray) -> "tuple
     return (corner + begins).astype(np.int32), (corner + ends - 1).astype(np.int32)
 
 
+def each_box(low: np.ndarray, high: np.ndarray) -> "Iterable[Box]":
+    """Returns boxes by their corners, both included (n x 3, int32)."""
+    corners = np.array(np.concatenate([low, high], axis=1), order="C")
+    return (Box * len(corners)).from_buffer(corners.data)
+
+
 def fill_boxes(held: Held, low: np.ndarray, high: np.ndarray, number: int) -> None:
     """Makes the voxels of boxes, which have these corners, both included (n x 3, int32), active with a value."""
-    corners = np.array(np.concatenate([low, high], axis=1), order="C")
     call, handle = LIBRARY.vdb_grid_fill, byref(held.handle)
     with held.lock:
-        for box in (Box * len(corners)).from_buffer(corners.data):
+        for box in each_box(low, high):
             call(handle, byref(box), number, 1)
 
 
@@ -219,11 +224,11 @@ def write_boxes(
 
     Values (int64) and states (bool) are arrays without gaps of one size, in which the least voxel of each box has this offset.
     """
-    corners, marks = np.array(np.concatenate([low, high], axis=1), order="C"), np.zeros(1, np.bool_) if states is None else states
+    marks = np.zeros(1, np.bool_) if states is None else states
     first, mark = c_int64.from_address(numbers.ctypes.data), c_uint8.from_address(marks.ctypes.data)
     call, handle, steps, written = LIBRARY.vdb_grid_write_box, byref(held.handle), byref(strides), byref(c_size_t())
     with held.lock:
-        for box, at in zip((Box * len(corners)).from_buffer(corners.data), offsets.tolist()):
+        for box, at in zip(each_box(low, high), offsets.tolist()):
             left = numbers.size - at
             chosen = (mark, 0) if states is None else (byref(mark, at), left)
             call(handle, ACCESSOR, byref(box), steps, byref(first, 8 * at), left, *chosen, written)
