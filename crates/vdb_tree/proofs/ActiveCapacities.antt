@@ -2,7 +2,9 @@
 use Rattle.vdb_tree.proofs.Common.{◌≡◌, ◌≢◌, ◌⊎◌, inl, inr, ℕ, ◌+◌, ◌-◌, ◌<◌, ◌≤◌, Bool, true, false, ◌||◌, List, ◌∷◌, length, refl, sym, ap, subst, ◌∙◌, arith, IsTrue, IsSome, Option, Some, None, IsDistinct, keys_of, is_member, length-keys_of, block, block_number, block_numbers, key, AreBits, coord_eq, everywhere, is_inside, Bits, Coord, Upper, less_apart, not_true, block_in_range, number_of_corner, coord_equiv, coord_exact, Cell, HasActive, IsInactive, HasCapacityForActive, IsActiveKey, IsSwept, Keeps, is_background, roots, Field, unite, Layout, background_cell, cell_at, field_of, root_at, MakesNoNode, IsSound, HasCapacity, IsNextKey, IsPast}
 use Rattle.vdb_tree.specs.internal.ActiveCapacity.{LacksCapacityForActive}
 use Rattle.vdb_tree.proofs.Blocks.{never, uniform_block, uniform_block_from}
-use Rattle.vdb_tree.proofs.Capacities.{capacity_from, entered_still, in_root}
+use Rattle.std.specs.Prelude.{◌++◌}
+use Rattle.std.proofs.lemmas.List.{length-append}
+use Rattle.vdb_tree.proofs.Capacities.{capacity_from, entered_still, in_root, member_first, member_second}
 use Rattle.vdb_tree.proofs.Fields.{cell_inside}
 use Rattle.vdb_tree.proofs.KeysPast.{past_on}
 use Rattle.vdb_tree.proofs.Levels.{bool_cases}
@@ -121,6 +123,15 @@ module _ {X : Type 0} (bits : Bits) (u : Layout X) where
       pub entered : (k : Coord) → IsSome (root_at t.root k) → is_member coord_eq keys k ≡ true
       pub met : (q : Coord) → (cell_at bits u q).on ≡ true → IsPast passed (key bits q) ⊎ (is_member coord_eq keys (key bits q) ≡ true)
       pub each : (k : Coord) → is_member coord_eq keys k ≡ true → IsSome (root_at t.root k) ⊎ (IsActiveKey bits u k × (IsPast passed k → ⊥))
+
+    -- a table with room for as many entries as the other table has has capacity for its active upper extents
+    pub capacity_of_few : length u.root ≤ t.limit - length t.root → length t.root ≤ t.limit → HasCapacityForActive bits u t
+    capacity_of_few few limit = record {
+      keys = keys_of t.root ++ keys_of u.root;
+      few = let a = length-keys_of t.root in let b = length-keys_of u.root in let c = length-append (keys_of t.root) (keys_of u.root) in omega (arith, a, b, c, few, limit);
+      entered = λ k held. member_first (keys_of t.root) (keys_of u.root) k (key_member t k held);
+      met = λ q on. member_second (keys_of t.root) (keys_of u.root) (key bits q) (key_member u (key bits q) (active_entered bits u q on));
+    }
 
     pub counts_none : IsSound bits t → CountsActive None (t.limit - length t.root)
     counts_none sound = record {

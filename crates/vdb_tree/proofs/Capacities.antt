@@ -209,11 +209,11 @@ or_entered box Plain Entered (Ok _) h = λ p inside. inr (h p inside)
 or_entered box Plain Entered (Err _) h = tt
 
 -- what one of two lists has, both have together
-member_first : (xs ys : List Coord) (k : Coord) → is_member coord_eq xs k ≡ true → is_member coord_eq (xs ++ ys) k ≡ true
+pub member_first : (xs ys : List Coord) (k : Coord) → is_member coord_eq xs k ≡ true → is_member coord_eq (xs ++ ys) k ≡ true
 member_first [] ys k h = cc
 member_first (x ∷ xs) ys k h = elim (or_cases (coord_eq k x) (is_member coord_eq xs k) h) [ inl e ↦ or_first (coord_eq k x) _ e | inr m ↦ or_second (coord_eq k x) _ (member_first xs ys k m) ]
 
-member_second : (xs ys : List Coord) (k : Coord) → is_member coord_eq ys k ≡ true → is_member coord_eq (xs ++ ys) k ≡ true
+pub member_second : (xs ys : List Coord) (k : Coord) → is_member coord_eq ys k ≡ true → is_member coord_eq (xs ++ ys) k ≡ true
 member_second [] ys k h = h
 member_second (x ∷ xs) ys k h = or_second (coord_eq k x) _ (member_second xs ys k h)
 

@@ -1,10 +1,14 @@
 -- A tree's entries and cells, given by its nodes.
-use Rattle.vdb_tree.proofs.Common.{◌≡◌, ℕ, List, refl, ap, ◌∙◌, Some, slice_index_or, block_number, offset, Bits, Coord, Leaf, Lower, Upper, cell_in, Entry, Child, Tile, node_at, Cell, Layout, lower_entry, background_cell, root_entry, upper_entry}
+use Rattle.vdb_tree.proofs.Common.{◌≡◌, ℕ, List, refl, ap, ◌∙◌, Some, slice_index_or, block_number, key, offset, Bits, Coord, Leaf, Lower, Upper, cell_in, Entry, Child, Tile, node_at, Cell, Layout, lower_entry, background_cell, root_at, root_entry, upper_entry}
 use Rattle.vdb_node.specs.Leaf.{Leaf as LeafOf}
 use Rattle.vdb_tree.specs.Layout.{cell_at, entry_of_key}
 use Rattle.vdb_tree.proofs.Levels.{IsByBlock, below_by_entry}
 
 module _ {V : Type 0} (bits : Bits) (t : Layout V) where
+  -- the entry under the key of a coordinate
+  pub entry_at : (p : Coord) (e : Entry V) → root_at t.root (key bits p) ≡ Some e → root_entry bits t p ≡ e
+  entry_at p e is = rw is refl
+
   -- all coordinates of a block have the same entry over them
   pub root_by_block : IsByBlock bits Upper (root_entry bits t)
   root_by_block q r e = ap (entry_of_key t) e

@@ -1,5 +1,6 @@
 -- Passing over keys between the rows of a box of keys.
-use Rattle.vdb_tree.proofs.Common.{◌≡◌, ◌⊎◌, inl, inr, ℤ, pos, ◌+ℤ◌, ◌<ℤ◌, ◌≤ℤ◌, true, false, List, arith, refl, sym, subst, IsTrue, Some, None, IsSome, is_gt, Less, ints, block_bits, key, numbers_over, Box, coord, coord_cmp, is_inside, IsBefore, Bits, Coord, Upper, key_less, less_apart, less_once, which_before, coord_equiv, coord_total, inside_from, inside_parts, Entry, root_at, IsNextMet, MeetsRootBlock, IsNextKey}
+use Rattle.vdb_tree.proofs.Common.{◌≡◌, ◌⊎◌, inl, inr, ℤ, pos, ◌+ℤ◌, ◌<ℤ◌, ◌≤ℤ◌, true, false, List, arith, refl, sym, subst, IsTrue, ◌&&◌, Some, None, IsSome, is_gt, Less, ints, block_bits, key, numbers_over, Box, coord, coord_cmp, is_inside, IsBefore, Bits, Coord, Upper, key_less, less_apart, less_once, which_before, coord_equiv, coord_total, inside_from, inside_parts, Entry, root_at, IsNextMet, MeetsRootBlock, IsNextKey}
+use Rattle.std.specs.Ordering.{int_eq}
 use Rattle.vdb_coord.proofs.Digits.{number_mono}
 use Rattle.vdb_coord.proofs.Walk.{up_to_x}
 use Rattle.vdb_tree.specs.Capacity.{SkipsTo}
@@ -133,6 +134,16 @@ module _ {V : Type 0} (bits : Bits) (box : Box) (root : List (Coord × Entry V))
       subst (λ (j : Coord). is_inside (numbers_over bits Upper box) j ≡ true) met.2
       (inside_from (numbers_over bits Upper box) (key bits q) (number_mono b box.min.x q.x at.0.0) (number_mono b q.x box.max.x at.0.1) (number_mono b box.min.y q.y at.1.0) (number_mono b q.y box.max.y at.1.1)
       (number_mono b box.min.z q.z at.2.0) (number_mono b q.z box.max.z at.2.1))
+
+  -- no key of the box comes past the last
+  pub met_last : (let last = (numbers_over bits Upper box).max in int_eq after.x last.x && (int_eq after.y last.y && int_eq after.z last.z)) ≡ true → IsNextMet bits box root (Some after) None
+  met_last same k past met =
+      let last = (numbers_over bits Upper box).max in
+      let at = inside_parts (numbers_over bits Upper box) k (met_inside k met) in
+      absurd (elim (less_before after k past) [
+        | inl x ↦ grind (arith, ints, same, x, at.0.1)
+        | inr r ↦ elim r.1 [ inl y ↦ grind (arith, ints, same, y, at.1.1) | inr z ↦ let l = z.1 in grind (arith, ints, same, l, at.2.1) ]
+      ])
 
   -- no key of the table from past one up to another meets the box
   pub record IsMetPast (passed : Coord) : Type 0 where

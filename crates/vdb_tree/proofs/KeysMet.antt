@@ -1,5 +1,6 @@
 -- Which keys of a table may belong to upper extents that meet a box.
 use Rattle.vdb_tree.proofs.Common.{◌≡◌, ◌⊎◌, inl, inr, true, false, List, refl, sym, subst, ◌∙◌, IsTrue, Option, Some, None, IsSome, is_some, is_eq, is_gt, is_lt, Ordering, Less, Equal, Greater, key, Box, coord_cmp, is_inside, Bits, Coord, Upper, key_less, which_before, coord_equiv, none_before, Entry, root_at, IsNextMet}
+use Rattle.vdb_tree.specs.Capacity.{IsNextMetEntry}
 use Rattle.std.specs.Ordering.{is_some_and, ordering_then, partial_ordering_then}
 use Rattle.vdb_tree.proofs.Levels.{some_held}
 
@@ -59,3 +60,8 @@ module _ {V : Type 0} (bits : Bits) (box : Box) (root : List (Coord × Entry V))
       | inr later ↦ next.2 k (subst (λ (j : Coord). coord_cmp (key bits box.min) j ≡ Less) met.2 later) met held
     ],
   )
+
+  -- the same for the next key with its entry
+  pub met_past_first_entry : root_at root (key bits box.min) ≡ None → (o : Option (Coord × Entry V)) → IsNextMetEntry bits box root (Some (key bits box.min)) o → IsNextMetEntry bits box root None o
+  met_past_first_entry none None next = met_past_first none None next
+  met_past_first_entry none (Some n) next = (met_past_first none (Some n.0) next.0, next.1)

@@ -29,6 +29,11 @@ module _ {V : Type 0} (bits : Bits) where
       IsSome (root_at root next) × IsPast after next
       × ((k : Coord) → IsPast after k → MeetsRootBlock bits box k → IsSome (root_at root k) → is_gt (coord_cmp next k) ≡ false)
 
+  -- the entry of such a key
+  abbrev pub IsNextMetEntry : Box → List (Coord × Entry V) → Option Coord → Option (Coord × Entry V) → Type 0
+  IsNextMetEntry box root after None = IsNextMet box root after None
+  IsNextMetEntry box root after (Some next) = IsNextMet box root after (Some next.0) × (root_at root next.0 ≡ Some next.1)
+
   -- the keys of the table and of the box are among as many keys as the limit
   pub record HasCapacityFor (t : Layout V) (box : Box) : Type 0 where
     pub keys : List Coord

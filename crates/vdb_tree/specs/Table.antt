@@ -20,6 +20,11 @@ module _ {V : Type 0} where
       IsSome (root_at root next) × IsPast after next
       × ((k : Coord) → IsPast after k → IsSome (root_at root k) → is_gt (coord_cmp next k) ≡ false)
 
+  -- the entry with the least key of the table past `after`, if there is one
+  abbrev pub IsNextEntry : List (Coord × Entry V) → Option Coord → Option (Coord × Entry V) → Type 0
+  IsNextEntry root after None = IsNextKey root after None
+  IsNextEntry root after (Some next) = IsNextKey root after (Some next.0) × (root_at root next.0 ≡ Some next.1)
+
   -- the key has an entry, or the table has capacity for one more
   abbrev pub HasCapacity : Layout V → Coord → Type 0
   HasCapacity t key = IsSome (root_at t.root key) ⊎ (length t.root < t.limit)

@@ -8,12 +8,12 @@ ghost use Rattle.vdb_coord.specs.Space.{coord_cmp, everywhere, is_inside};
 ghost use Rattle.vdb_coord.specs.declared.Coord.{Coord};
 ghost use Rattle.vdb_coord.specs.declared.Level.TheVariants.{Upper};
 ghost use Rattle.vdb_tree.specs.Layout.{bits_of, root_at};
-ghost use Rattle.vdb_tree.specs.Capacity.{IsNextMet, SkipsTo};
+ghost use Rattle.vdb_tree.specs.Capacity.{IsNextMetEntry, SkipsTo};
 ghost use Rattle.vdb_tree.specs.Table.{IsNextKey};
 
 use crate::TreeOf;
 use vdb_coord::{Bounds, Coord, Level};
-use vdb_node::Stored;
+use vdb_node::{Entry, Stored};
 
 impl<
     V: Stored<WU> + Stored<WL> + Stored<WF>,
@@ -31,7 +31,10 @@ impl<
         ensures least { IsNextKey self.now.root after result }
         ensures inside { (k : Coord) → IsSome (root_at self.now.root k) → IsTrue (is_inside (block_numbers (bits_of U L F) Upper) k) }
     {
-        self.root.next_key(after)
+        match self.root.next_entry(after) {
+            Some((key, _)) => Some(key),
+            None => None,
+        }
     }
 
     /// Returns the first coordinate of the upper extent with a key of the table.
@@ -71,48 +74,56 @@ impl<
         }
     }
 
-    /// Returns the next key of the table past `after`, or the first without `after`, whose upper extent may meet the box;
-    /// `None` if no other does.
+    /// Returns the entry of the next key of the table past `after`, or of the first without `after`, whose upper extent may meet
+    /// the box, behind its key; `None` if no other does.
     ///
     /// It alternates between the keys of the table and those of the box. Past a key of the table that doesn't meet the box it
     /// looks for the next of the box. Past a key of the box without an entry it looks for the next of the table. So it takes no
     /// more iterations than the table has keys, and no more than the number of upper extents that meet the box: a small box in
     /// a large table is as cheap as a large box over a small table.
-    pub(crate) fn next_key_in(&self, bounds: Bounds, after: Option<Coord>) -> Option<Coord>
-        ensures { IsNextMet (bits_of U L F) bounds self.now.root after result }
+    pub(crate) fn next_entry_in(
+        &self,
+        bounds: Bounds,
+        after: Option<Coord>,
+    ) -> Option<(Coord, Entry<V>)>
+        ensures { IsNextMetEntry (bits_of U L F) bounds self.now.root after result }
     {
         match after {
-            Some(passed) => self.key_met(bounds, passed),
-            None => self.first_key_in(bounds),
+            Some(passed) => self.entry_met(bounds, passed),
+            None => self.first_entry_in(bounds),
         }
     }
 
-    /// Returns the first key of the table whose upper extent may meet the box.
-    fn first_key_in(&self, bounds: Bounds) -> Option<Coord>
-        ensures { IsNextMet (bits_of U L F) bounds self.now.root None result }
+    /// Returns the entry of the first key of the table whose upper extent may meet the box, behind that key.
+    fn first_entry_in(&self, bounds: Bounds) -> Option<(Coord, Entry<V>)>
+        ensures { IsNextMetEntry (bits_of U L F) bounds self.now.root None result }
     {
         let first = self.key(bounds.min());
-        if self.root.get(first).is_some() {
-            return Some(first);
+        if let Some(entry) = self.root.get(first) {
+            return Some((first, entry));
         }
-        self.key_met(bounds, first)
+        self.entry_met(bounds, first)
     }
 
-    /// Returns the next key of the table past this one whose upper extent may meet the box.
-    fn key_met(&self, bounds: Bounds, after: Coord) -> Option<Coord>
-        ensures { IsNextMet (bits_of U L F) bounds self.now.root (Some after) result }
+    /// Returns the entry of the next key of the table past this one whose upper extent may meet the box, behind that key. Past
+    /// the box's last key it searches nothing.
+    fn entry_met(&self, bounds: Bounds, after: Coord) -> Option<(Coord, Entry<V>)>
+        ensures { IsNextMetEntry (bits_of U L F) bounds self.now.root (Some after) result }
     {
         let keys = bounds.block_numbers_in(self.bits(), Level::Upper);
+        if after == keys.max() {
+            return None;
+        }
         let mut passed = after;
-        while let Some(key) = self.next_key(Some(passed)) {
+        while let Some((key, entry)) = self.root.next_entry(Some(passed)) {
             if keys.contains(key) {
-                return Some(key);
+                return Some((key, entry));
             }
             let Some(next) = skip_to(keys, key) else {
                 return None;
             };
-            if self.root.get(next).is_some() {
-                return Some(next);
+            if let Some(entry) = self.root.get(next) {
+                return Some((next, entry));
             }
             passed = next;
         }

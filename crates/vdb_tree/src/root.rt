@@ -8,7 +8,7 @@ ghost use Rattle.vdb_coord.specs.Space.{coord_eq};
 ghost use Rattle.vdb_coord.specs.declared.Coord.{Coord};
 ghost use Rattle.vdb_node.specs.declared.Entry.TheVariants.{Child, Tile};
 ghost use Rattle.vdb_tree.specs.Layout.{root_at};
-ghost use Rattle.vdb_tree.specs.Table.{IsNextKey};
+ghost use Rattle.vdb_tree.specs.Table.{IsNextEntry};
 
 use std::alloc::{AllocError, Global};
 use std::collections::BTreeMap;
@@ -60,38 +60,38 @@ impl<V: Copy> RootTable<V> {
         self.entries.len()
     }
 
-    /// Returns the least key past `after`, or the least of all without `after`.
-    pub(crate) fn next_key(&self, after: Option<Coord>) -> Option<Coord>
-        ensures { IsNextKey self.now after result }
+    /// Returns the entry with the least key past `after`, or with the least of all without `after`, behind its key.
+    pub(crate) fn next_entry(&self, after: Option<Coord>) -> Option<(Coord, Entry<V>)>
+        ensures { IsNextEntry self.now after result }
     {
         match after {
-            Some(key) => self.key_after(key),
-            None => self.first_key(),
+            Some(key) => self.entry_after(key),
+            None => self.first_entry(),
         }
     }
 
-    fn first_key(&self) -> Option<Coord>
-        ensures { IsNextKey self.now None result }
+    fn first_entry(&self) -> Option<(Coord, Entry<V>)>
+        ensures { IsNextEntry self.now None result }
     {
         match self
             .entries
             .range((Bound::<Coord>::Unbounded, Bound::Unbounded))
             .next()
         {
-            Some((key, _)) => Some(*key),
+            Some((key, entry)) => Some((*key, *entry)),
             None => None,
         }
     }
 
-    fn key_after(&self, after: Coord) -> Option<Coord>
-        ensures { IsNextKey self.now (Some after) result }
+    fn entry_after(&self, after: Coord) -> Option<(Coord, Entry<V>)>
+        ensures { IsNextEntry self.now (Some after) result }
     {
         match self
             .entries
             .range((Bound::Excluded(after), Bound::Unbounded))
             .next()
         {
-            Some((key, _)) => Some(*key),
+            Some((key, entry)) => Some((*key, *entry)),
             None => None,
         }
     }
@@ -115,10 +115,7 @@ impl<V: Copy> RootTable<V> {
     {
         let mut copy = RootTable::new(alloc);
         let mut passed = None;
-        while let Some(key) = self.next_key(passed) {
-            let Some(entry) = self.get(key) else {
-                unreachable!()
-            };
+        while let Some((key, entry)) = self.next_entry(passed) {
             copy.enter(key, entry)?;
             passed = Some(key);
         }

@@ -49,7 +49,7 @@ impl<
         }
     }
 
-    /// Paints the box in the first upper extent that `next_key_in` finds past the key `after`, or in the first of all without
+    /// Paints the box in the first upper extent that `next_entry_in` finds past the key `after`, or in the first of all without
     /// `after`. Returns that extent's key.
     fn paint_next_root(
         &mut self,
@@ -66,17 +66,24 @@ impl<
         ensures table { IfSome result (λ k. (j : Coord) → j ≢ k → root_at self.new.root j ≡ root_at self.old.root j) }
         ensures entered { IfSome result (λ k. IsSome (root_at self.new.root k)) }
     {
-        let key = self.next_key_in(bounds, after)?;
+        let (key, entry) = self.next_entry_in(bounds, after)?;
         if let Some(p) = self.within_root(bounds, key) {
-            self.paint_root_block(bounds, p, cell, steps);
+            self.paint_root_block(bounds, p, entry, cell, steps);
         }
         Some(key)
     }
 
-    /// Paints the box in the upper extent around p, which has an entry.
-    fn paint_root_block(&mut self, bounds: Bounds, p: Coord, cell: Cell<V>, steps: &mut Steps)
+    /// Paints the box in the upper extent around p, which has this entry.
+    fn paint_root_block(
+        &mut self,
+        bounds: Bounds,
+        p: Coord,
+        entry: Entry<V>,
+        cell: Cell<V>,
+        steps: &mut Steps,
+    )
         requires inside { IsTrue (is_inside bounds p) }
-        requires entered { IsSome (root_at self.old.root (key (bits_of U L F) p)) }
+        requires entered { root_at self.old.root (key (bits_of U L F) p) ≡ Some entry }
         requires edges { AreSplit (bits_of U L F) bounds cell self.old }
         ensures outside { KeepsOutside (bits_of U L F) bounds Upper self.old self.new (block_number (bits_of U L F) Upper p) }
         ensures painted { ArePainted (bits_of U L F) bounds cell Upper Upper self.new (block_number (bits_of U L F) Upper p) }
@@ -88,7 +95,7 @@ impl<
                 self.drop_lowers(upper, p, cell, steps);
                 self.drop_upper(upper, p, cell, steps);
             }
-        } else if let Entry::Child(upper) = self.root_entry(p) {
+        } else if let Entry::Child(upper) = entry {
             self.paint_lower_blocks(upper, bounds, p, cell, steps);
         }
     }

@@ -95,7 +95,7 @@ impl<
             && self.is_covered(bounds, Level::Upper, bounds.max())
     }
 
-    /// Splits the first upper extent that `next_key_in` finds past the key `after` (the first of all without `after`), if it
+    /// Splits the first upper extent that `next_entry_in` finds past the key `after` (the first of all without `after`), if it
     /// meets the box. Returns that extent's key.
     fn split_next_root(
         &mut self,
@@ -114,25 +114,26 @@ impl<
         ensures table { IfOk result (λ next. (k : Coord) → next ≢ Some k → root_at self.new.root k ≡ root_at self.old.root k) }
         ensures memory { IfErr result (λ refusal. refusal ≡ Memory) }
     {
-        let Some(key) = self.next_key_in(bounds, after) else {
+        let Some((key, entry)) = self.next_entry_in(bounds, after) else {
             return Ok(None);
         };
         if let Some(p) = self.within_root(bounds, key) {
-            self.split_upper_block(bounds, p, cell, steps)?;
+            self.split_upper_block(bounds, p, entry, cell, steps)?;
         }
         Ok(Some(key))
     }
 
-    /// Splits p's upper extent, which has an entry.
+    /// Splits p's upper extent, which has this entry.
     fn split_upper_block(
         &mut self,
         bounds: Bounds,
         p: Coord,
+        entry: Entry<V>,
         cell: Cell<V>,
         steps: &mut Steps,
     ) -> Result<(), TreeRefusal>
         requires inside { IsTrue (is_inside bounds p) }
-        requires entered { IsSome (root_at self.old.root (key (bits_of U L F) p)) }
+        requires entered { root_at self.old.root (key (bits_of U L F) p) ≡ Some entry }
         ensures keeps { Keeps (bits_of U L F) self.old self.new }
         ensures adds { AddsNodes (bits_of U L F) self.old self.new }
         ensures made { MakesOnly (bits_of U L F) (IsCut (bits_of U L F) bounds cell) self.old self.new }
@@ -145,12 +146,12 @@ impl<
         if self.is_covered(bounds, Level::Upper, p) {
             return Ok(());
         }
-        if let Entry::Tile(tile) = self.root_entry(p) {
-            if tile == cell {
+        if let Entry::Tile(tile) = &entry {
+            if *tile == cell {
                 return Ok(());
             }
         }
-        let upper = self.upper_around(p)?;
+        let upper = self.upper_of(p, entry)?;
         let part = self.part(bounds, Level::Upper, p);
         self.split_lower_blocks(upper, bounds, p, part, cell, steps)
     }

@@ -1,6 +1,6 @@
 //! Splits of tiles into nodes that keep every cell.
 
-ghost use Rattle.std.specs.Prelude.{◌≡◌, ◌≢◌, ◌+◌, ◌<◌, ◌≤◌, IfErr, IfOk, IsSome, OnOk, length};
+ghost use Rattle.std.specs.Prelude.{◌≡◌, ◌≢◌, ◌+◌, ◌<◌, ◌≤◌, ℕ, IfErr, IfOk, IsSome, OnOk, Some, length};
 ghost use Rattle.vdb_coord.specs.Blocks.{key};
 ghost use Rattle.vdb_coord.specs.declared.Coord.{Coord};
 ghost use Rattle.vdb_coord.specs.declared.Level.TheVariants.{Leaf as leaf_level, Lower, Upper};
@@ -26,6 +26,23 @@ impl<
     const WL: usize,
     const WF: usize,
 > TreeOf<V, U, L, F, WU, WL, WF> {
+    /// Returns the slot of the upper node around p, whose key has this entry. If that is a tile, this splits it.
+    pub(crate) fn upper_of(&mut self, p: Coord, entry: Entry<V>) -> Result<u32, TreeRefusal>
+        requires { root_at self.old.root (key (bits_of U L F) p) ≡ Some entry }
+        ensures keeps { Keeps (bits_of U L F) self.old self.new }
+        ensures adds { AddsNodes (bits_of U L F) self.old self.new }
+        ensures but { KeepsAllBut (bits_of U L F) Upper self.old self.new p }
+        ensures table { (k : Coord) → k ≢ key (bits_of U L F) p → root_at self.new.root k ≡ root_at self.old.root k }
+        ensures ok { IfOk result (λ slot. root_entry (bits_of U L F) self.new p ≡ Child slot) }
+        ensures there { (slot : ℕ) → entry ≡ Child slot → self.new ≡ self.old }
+        ensures memory { IfErr result (λ refusal. refusal ≡ Memory) }
+    {
+        match entry {
+            Entry::Child(slot) => Ok(slot),
+            Entry::Tile(cell) => self.split_root(p, cell),
+        }
+    }
+
     /// Splits the tile under p's key: makes an upper node with that tile's cell all over. Returns the node's slot.
     pub(crate) fn split_root(&mut self, p: Coord, cell: Cell<V>) -> Result<u32, TreeRefusal>
         requires tiled { root_entry (bits_of U L F) self.old p ≡ Tile cell }

@@ -98,6 +98,9 @@ impl<
         ensures full { result ≡ false → LacksCapacityForActive (bits_of U L F) other.now self.now }
     {
         let mut capacity = self.limit as usize - self.root.len();
+        if other.root.len() <= capacity {
+            return true;
+        }
         let mut passed = None;
         'keys: while let Some(key) = other.next_key(passed) {
             if self.lacks_entry_for(other, other.key_corner(key), steps) {

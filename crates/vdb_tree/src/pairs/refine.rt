@@ -67,26 +67,32 @@ impl<
             → (q : Coord) → block_number (bits_of U L F) Upper q ≡ block_number (bits_of U L F) Upper p → IsRefinedTo (bits_of U L F) rule other.now Upper self.new q) }
         ensures memory { IfErr result (λ refusal. refusal ≡ Memory) }
     {
-        if self.root.get(self.key(p)).is_none() {
+        let Some(entry) = self.root.get(self.key(p)) else {
             return Ok(());
-        }
+        };
         let Entry::Child(over) = other.root_entry(p) else {
             return Ok(());
         };
-        match self.upper_to_change(rule, p)? {
+        match self.upper_to_change(rule, p, entry)? {
             Some(upper) => self.refine_lowers(upper, other, over, rule, p, steps),
             None => Ok(()),
         }
     }
 
-    /// Returns the slot of the upper node around p. If p has a tile whose state the rule can change, this makes the node.
-    fn upper_to_change(&mut self, rule: StateRule, p: Coord) -> Result<Option<u32>, TreeRefusal>
-        requires entered { IsSome (root_at self.old.root (key (bits_of U L F) p)) }
+    /// Returns the slot of the upper node around p, whose key has this entry. If that is a tile whose state the rule can change,
+    /// this makes the node.
+    fn upper_to_change(
+        &mut self,
+        rule: StateRule,
+        p: Coord,
+        entry: Entry<V>,
+    ) -> Result<Option<u32>, TreeRefusal>
+        requires { root_at self.old.root (key (bits_of U L F) p) ≡ Some entry }
         ensures makes { MakesNode (bits_of U L F) rule Upper self.old self.new p }
         ensures refined { IfOk result (λ node. IsNodeOrMade (bits_of U L F) rule Upper self.new p node) }
         ensures memory { IfErr result (λ refusal. refusal ≡ Memory) }
     {
-        match self.root_entry(p) {
+        match entry {
             Entry::Child(upper) => Ok(Some(upper)),
             Entry::Tile(tile) => {
                 if !can_change(rule, tile.on) {

@@ -1,4 +1,4 @@
-use Rattle.std.proofs.Common.{◌≡◌, ◌∙◌, ap, refl, List, Option, Some, None, unwrap_or, rules}
+use Rattle.std.proofs.Common.{◌≡◌, refl, List, Option, Some, None, unwrap_or, rules}
 use Rattle.std.specs.Option.{option_map_or}
 use Rattle.std.specs.BTreeMap.Entry.{map_with_value}
 use Rattle.std.proofs.lemmas.Map.Keys.{IsDistinct-from_sorted}

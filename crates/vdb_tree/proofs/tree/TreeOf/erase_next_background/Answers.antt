@@ -1,4 +1,4 @@
-use Rattle.vdb_tree.proofs.Common.{subst, Coord, PrunesRoot, bits_of, background_cell}
+use Rattle.vdb_tree.proofs.Common.{subst, Coord, PrunesRoot, bits_of}
 use Rattle.vdb_tree.proofs.Blocks.{never}
 use Rattle.vdb_tree.proofs.Erasing.{erases_none, erases_pruned}
 use Rattle.vdb_tree.proofs.RootSweeps.{prunes_root}

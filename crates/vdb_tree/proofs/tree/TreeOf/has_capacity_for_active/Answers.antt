@@ -1,5 +1,5 @@
 use Rattle.vdb_tree.proofs.Common.{◌≡◌, ◌<◌, ◌⊎◌, inl, inr, false, rules, subst, IsSome, None, key, Coord, IsActiveKey, bits_of, cell_at, root_at}
-use Rattle.vdb_tree.proofs.ActiveCapacities.{counts_all, counts_full, counts_held, counts_idle, counts_more, counts_none}
+use Rattle.vdb_tree.proofs.ActiveCapacities.{capacity_of_few, counts_all, counts_full, counts_held, counts_idle, counts_more, counts_none}
 use Rattle.vdb_tree.proofs.KeysPast.{fewer_past}
 use Rattle.vdb_tree.proofs.tree.TreeOf.has_capacity_for_active.Goals as goal
 
@@ -43,3 +43,8 @@ returns-then-capacity-eq0-clause-full g c = λ _.
 pub returns-clause-capacity : goal.returns-clause-capacity
 returns-clause-capacity g c = λ _.
     counts_all (bits_of g.row.U g.row.L g.row.F) c.args.other.now c.args.self.now c.keys.passed c.keys.capacity c.keys.invariant c.in_default.ensures.least
+
+pub returns-then-len-capacity-clause-capacity : goal.returns-then-len-capacity-clause-capacity
+returns-then-len-capacity-clause-capacity g c = λ _.
+    let few = rw (c.len-2.ensures, c.len.ensures) at c.if-len-capacity.true in
+    rw (← c.self.view_is, ← c.other.view_is) (capacity_of_few (bits_of g.row.U g.row.L g.row.F) _ _ few c.self.invariant.1.limit)

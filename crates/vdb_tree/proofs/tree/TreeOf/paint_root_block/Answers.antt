@@ -1,6 +1,7 @@
 use Rattle.vdb_tree.proofs.Common.{◌∙◌, ap, refl, Some, block_number, key, Upper, Tile, bits_of, root_at}
 use Rattle.vdb_tree.proofs.Blocks.{never}
 use Rattle.vdb_tree.proofs.Clears.{beyond_outside}
+use Rattle.vdb_tree.proofs.Descents.{entry_at}
 use Rattle.vdb_tree.proofs.Needed.{is_some_from}
 use Rattle.vdb_tree.proofs.Paints.{filled_outside, outside_twice, tiles_painted, uncovered_tile, uncovered_upper}
 use Rattle.vdb_tree.proofs.Passes.{descent_by}
@@ -57,13 +58,13 @@ returns-in_default-clause-entered g c =
     let at = key (bits_of g.row.U g.row.L g.row.F) c.args.p in
     is_some_from (root_at c.paint_root_tile.new.self.root at) (Tile c.args.cell) (that_key c.args.self.now.root c.paint_root_tile.new.self.root at (Some (Tile c.args.cell)) (c.in_default.ensures.table _ refl))
 
-pub returns-in-Child-root_entry-clause-painted : goal.returns-in-Child-root_entry-clause-painted
-returns-in-Child-root_entry-clause-painted g c =
+pub returns-in-Child-entry-clause-painted : goal.returns-in-Child-entry-clause-painted
+returns-in-Child-entry-clause-painted g c =
     uncovered_upper (bits_of g.row.U g.row.L g.row.F) c.args.bounds c.args.cell c.paint_lower_blocks.new.self c.args.p (λ h. never c.if-is_covered.false (c.is_covered.ensures.1 h)) c.paint_lower_blocks.ensures.painted
 
-pub returns-in_default-root_entry-clause-painted : goal.returns-in_default-root_entry-clause-painted
-returns-in_default-root_entry-clause-painted g c =
+pub returns-in_default-entry-clause-painted : goal.returns-in_default-entry-clause-painted
+returns-in_default-entry-clause-painted g c =
     let bits = bits_of g.row.U g.row.L g.row.F in
     tiles_painted bits c.args.bounds c.args.cell Upper c.args.self.now c.args.p
-    (uncovered_tile bits c.args.bounds c.args.cell Upper c.args.self.now c.args.p c.in_default-root_entry.field-0 c.requires.edges c.requires.inside (λ h. never c.if-is_covered.false (c.is_covered.ensures.1 h))
-    c.in_default-root_entry.ensures)
+    (uncovered_tile bits c.args.bounds c.args.cell Upper c.args.self.now c.args.p c.in_default-entry.field-0 c.requires.edges c.requires.inside (λ h. never c.if-is_covered.false (c.is_covered.ensures.1 h))
+    (entry_at bits c.args.self.now c.args.p c.args.entry c.requires.entered ∙ c.in_default-entry.is))
