@@ -205,7 +205,7 @@ void run() {
         report("C, gets by an accessor in order", "voxel", VOXELS, [&] {
             for (const vdb_coord& at : ordered) probed += grid.near(at);
         });
-        report("C, gets from the root in order", "voxel", VOXELS, [&] {
+        report("C, gets without an accessor in order", "voxel", VOXELS, [&] {
             for (const vdb_coord& at : ordered) rooted += grid.get(at);
         });
         report("C, gets by an accessor along a random walk", "voxel", VOXELS, [&] {
