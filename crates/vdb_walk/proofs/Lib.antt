@@ -22,5 +22,6 @@ pub mod PartSeeks
 pub mod NextVoxels
 pub mod Yielded
 pub mod ListingSizes
+pub mod Runs
 pub mod BlockCounts
 pub mod SkippedParts

@@ -1,5 +1,5 @@
 -- The first active voxel of a part, and of what is left of a walk over parts.
-use Rattle.vdb_walk.proofs.Common.{◌≡◌, inl, inr, sym, ap, ◌∙◌, refl, subst, Bool, true, false, IsTrue, not, Option, Some, None, IfSome, is_some, option_map, is_lt, block_cmp, block_number, offset, ComesBefore, is_bounds, Box, everywhere, is_box, is_inside, is_within, Bits, Coord, Leaf, not_before_min, not_both, both, within_each, min_inside, cell_in, bool_cases, Field, off, Layout, field_of, IsPartOfLeaf, IsSkipped, IsWalk, Passes, TreeWalk, YieldsBox, is_left, IsLeafAround, Skip, Inactive, Cell, IsActivePast, IsFirst, IsInLeafBlock, IsOnPast, IsPastLast, IsListing, Held}
+use Rattle.vdb_walk.proofs.Common.{◌≡◌, inl, inr, sym, ap, ◌∙◌, refl, subst, ℕ, Bool, true, false, IsTrue, not, Option, Some, None, IfSome, is_some, option_map, is_lt, block_cmp, block_number, offset, ComesBefore, is_bounds, Box, everywhere, is_box, is_inside, is_within, Bits, Coord, Leaf, not_before_min, not_both, both, within_each, min_inside, cell_in, bool_cases, Field, off, Layout, field_of, IsPartOfLeaf, IsSkipped, IsWalk, Passes, TreeWalk, YieldsBox, is_left, IsLeafAround, Skip, Inactive, Cell, IsActivePast, IsFirst, IsInLeafBlock, IsOnPast, IsPastLast, IsListing, Held}
 use Rattle.std.specs.Borrow.{Bor}
 use Rattle.std.specs.Prelude.{IfNone}
 use Rattle.vdb_node.specs.Leaf.{Leaf as LeafOf}
@@ -35,10 +35,10 @@ module _ {V : Type 0} (bits : Bits) (f : Field V) (part : Box) (leaf : LeafOf V)
   leaf_first after found h =
       first_same bits (IsOnPast bits after leaf.states) (IsActivePast bits after f) part (λ q i k. (k.0, ap (λ (c : Cell V). c.on) (is.cells q i) ∙ k.1)) (λ q i k. (k.0, sym (ap (λ (c : Cell V). c.on) (is.cells q i)) ∙ k.1)) found h
 
-  pub leaf_value : (Kind : Coord → Type 0) (found : Option (Coord × V)) → IsFirst bits Kind part (option_map (λ item. item.0) found) → IfSome found (λ item. (d : Cell V) → item.1 ≡ (cell_in d leaf (offset bits Leaf item.0)).value)
-      → IfSome found (λ item. item.1 ≡ (f.cell item.0).value)
-  leaf_value Kind (Some item) h value = value (off f.background) ∙ sym (ap (λ (c : Cell V). c.value) (is.cells item.0 h.0))
-  leaf_value Kind None h value = tt
+  pub leaf_entry_value : (p : Coord) → IsTrue (is_inside part p) → (entry : ℕ) → offset bits Leaf p ≡ entry → (cell : Cell V) → ((d : Cell V) → cell_in d leaf entry ≡ cell) → cell.value ≡ (f.cell p).value
+  leaf_entry_value p i entry at cell h =
+      let d = off f.background in
+      sym (ap (λ (c : Cell V). c.value) (is.cells p i) ∙ ap (λ (k : ℕ). (cell_in d leaf k).value) at ∙ ap (λ (c : Cell V). c.value) (h d))
 
 -- ---- along a walk
 

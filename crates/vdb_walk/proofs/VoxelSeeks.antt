@@ -21,10 +21,6 @@ module _ (bits : Bits) (states : List Bool) (part : Box) (from : ℕ) where
     pub from_on : from ≤ at
     pub inactive : (q : Coord) → is_inside part q ≡ true → from ≤ offset bits Leaf q → offset bits Leaf q < at → is_set bits states q ≡ false
 
-  -- at the start nothing is passed
-  inactive_first : IsInactiveTo from
-  inactive_first = record { from_on = omega arith; inactive = λ q i f h. absurd (omega (arith, f, h)) }
-
   module _ (at n : ℕ) (done : IsInactiveTo at) where
     module _ (index : ℕ) (next : IsNextAt true states n at index) where
       before : (q : Coord) → is_inside part q ≡ true → from ≤ offset bits Leaf q → offset bits Leaf q < index → is_set bits states q ≡ false
@@ -61,12 +57,3 @@ module _ (bits : Bits) (states : List Bool) (part : Box) (from : ℕ) where
               | inr e ↦ absurd (false_true (sym beside ∙ ap (is_inside part) (voxel_from_leaf bits p q (in_block ∙ sym (block q i)) (at_index ∙ sym e)) ∙ i))
             ];
           }
-
--- the first entry from the start on whose state is on is an entry of the leaf
-pub near_below : (bits : Bits) (states : List Bool) (part : Box) (from n index : ℕ) → IsNextAt true states n from index → IsOffFrom states (entries bits Leaf) → index < entries bits Leaf
-near_below bits states part from n index next past_end = set_below bits states part from from n (inactive_first bits states part from) index next past_end
-
--- and its voxel is the next voxel of the part if it lies in the part
-pub near_found : (bits : Bits) (states : List Bool) (part : Box) (from n index : ℕ) → IsNextAt true states n from index → IsOffFrom states (entries bits Leaf)
-    → (p : Coord) → p ≡ (sub_block bits Leaf (block_around bits Leaf part.min) index).min → is_inside part p ≡ true → IsNextSetAt bits states part from index p
-near_found bits states part from n index next past_end p corner inside = set_found bits states part from from n (inactive_first bits states part from) index next past_end p corner inside

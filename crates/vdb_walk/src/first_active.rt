@@ -1,27 +1,23 @@
 //! Finds the next active voxel in block order.
 
-ghost use Rattle.std.specs.Prelude.{◌≡◌, ◌≤◌, ◌*◌, IfNone, IfSome, None, Some, true};
+ghost use Rattle.std.specs.Prelude.{◌≡◌, ◌<◌, ◌≤◌, ◌*◌, IfNone, IfSome, None, Some, true};
 ghost use Rattle.std.specs.List.{find};
 ghost use Rattle.std.specs.Option.{option_map};
 ghost use Rattle.vdb_coord.specs.Blocks.{entries, is_past, offset};
 ghost use Rattle.vdb_coord.specs.Entries.{AreBits};
 ghost use Rattle.vdb_coord.specs.declared.Level.TheVariants.{Leaf as leaf_level};
-ghost use Rattle.vdb_node.specs.Leaf.{cell_in};
-ghost use Rattle.vdb_node.specs.Nodes.{IsOffFrom};
+ghost use Rattle.vdb_node.specs.Nodes.{entry_count};
 ghost use Rattle.vdb_tree.specs.Layout.{bits_of, field_of};
-ghost use Rattle.vdb_value.specs.declared.Cell.{Cell};
 ghost use Rattle.vdb_walk.specs.internal.Firsts.{IsActivePast, IsFirst, IsEntryPast, IsInLeafBlock, IsOnPast, IsPastLast};
 ghost use Rattle.vdb_tree.specs.Parts.{IsWalk};
-ghost use Rattle.vdb_walk.specs.internal.Listings.{HasCells, IsHeld, IsListing};
+ghost use Rattle.vdb_walk.specs.internal.Listings.{HasCells, IsAhead, IsHeld, IsListing, IsRunOf};
 ghost use Rattle.vdb_walk.specs.Reports.{active};
-ghost use Rattle.vdb_walk.specs.internal.Voxels.{IsNextSetAt};
 
-use crate::held::{Held, without_leaf};
+use crate::held::{Held, Run, without_leaf};
 use crate::listing::list_past;
 use crate::order::first_past;
-use crate::voxels::{block_corner, next_set, voxel_at};
+use crate::voxels::{block_corner, next_set_in, run_end};
 use vdb_coord::{Bits, Bounds, Coord, Level};
-use vdb_mask::Mask;
 use vdb_node::{Internal, Leaf, Stored};
 use vdb_pool::Steps;
 use vdb_tree::{Content, Part, Skip, TreeOf, Walk};
@@ -106,8 +102,8 @@ pub(crate) fn next_found<
     None
 }
 
-/// Returns the first active voxel past `after` in a part that the walk has yielded. It needs one visit if the walk's path ends in
-/// the part's leaf.
+/// Returns the first active voxel past `after` in a part that the walk has yielded, and begins the run that follows it. It needs
+/// one visit if the walk's path ends in the part's leaf.
 pub(crate) fn first_held<
     V: Stored<WU> + Stored<WL> + Stored<WF>,
     const U: u32,
@@ -121,12 +117,15 @@ pub(crate) fn first_held<
     after: Option<Coord>,
     walk: &Walk<Internal<V, U, WU>, Internal<V, L, WL>, Leaf<V, F, WF>>,
     held: Held<V>,
+    run: &mut Run<V>,
     steps: &mut Steps,
 ) -> Option<(Coord, V)>
     requires walk { IsWalk (bits_of U L F) tree.now walk.now }
     requires held { IsHeld (bits_of U L F) tree.now held }
+    requires empty { run.old.end ≤ run.old.entry }
     ensures first { IsFirst (bits_of U L F) (IsActivePast (bits_of U L F) after (field_of (bits_of U L F) tree.now)) held.bounds (option_map (λ item. item.0) result) }
     ensures value { IfSome result (λ item. item.1 ≡ ((field_of (bits_of U L F) tree.now).cell item.0).value) }
+    ensures run { IsAhead (bits_of U L F) tree.now (option_map (λ item. item.0) result) (Some held) run.new }
 {
     let bits = tree.bits();
     let (part, corner) = (held.bounds, held.bounds.min());
@@ -136,10 +135,9 @@ pub(crate) fn first_held<
     match tree.leaf_of(walk, corner, steps) {
         Some(leaf) => {
             tree.has_leaf_words();
-            match near_in_leaf(leaf, bits, after, part) {
-                Some(item) => Some(item),
-                None => first_in_leaf(leaf, bits, after, part),
-            }
+            let (entry, p) = next_in_leaf(leaf, bits, after, part)?;
+            begin_run(run, leaf, part, p, entry);
+            Some((p, leaf.entry(entry).value))
         }
         // a block without a leaf has one cell
         None => first_in_tile(tree.piece(corner, steps).cell, bits, after, part),
@@ -170,7 +168,8 @@ fn first_in<
         Content::Tile(cell) => first_in_tile(cell, bits, after, bounds),
         Content::Leaf(leaf) => {
             tree.has_leaf_words();
-            first_in_leaf(leaf, bits, after, bounds)
+            let (entry, p) = next_in_leaf(leaf, bits, after, bounds)?;
+            Some((p, leaf.entry(entry).value))
         }
     }
 }
@@ -195,65 +194,50 @@ fn first_in_tile<V: Copy>(
     }
 }
 
-/// Returns the first active voxel of the part past `after`. The part lies in the leaf's extent.
-fn first_in_leaf<V: Stored<W>, const F: u32, const W: usize>(
+/// Returns the entry and the voxel of the first active voxel of the part past `after`. The part lies in the leaf's extent.
+#[inline(always)]
+fn next_in_leaf<V: Stored<W>, const F: u32, const W: usize>(
     leaf: &Leaf<V, F, W>,
     bits: Bits,
     after: Option<Coord>,
     part: Bounds,
-) -> Option<(Coord, V)>
+) -> Option<(u32, Coord)>
     requires configured { AreBits bits }
     requires leaf { bits.leaf ≡ F }
     requires few_words { W ≤ 512 }
     requires capacity { entries bits leaf_level ≤ 64 * W }
     requires block { IsInLeafBlock bits part }
-    ensures first { IsFirst bits (IsOnPast bits after leaf.now.states) part (option_map (λ item. item.0) result) }
-    ensures value { IfSome result (λ item. (d : Cell V) → item.1 ≡ (cell_in d leaf.now (offset bits leaf_level item.0)).value) }
+    ensures first { IsFirst bits (IsOnPast bits after leaf.now.states) part (option_map (λ next. next.1) result) }
+    ensures at { IfSome result (λ next. offset bits leaf_level next.1 ≡ next.0) }
+    ensures within { IfSome result (λ next. next.0 < entry_count F) }
 {
-    let from = match entry_past(bits, after, part) {
-        Some(from) => from,
-        None => return None,
-    };
-    match next_set(leaf.states(), bits, part, from) {
-        Some((entry, p)) => Some((p, leaf.entry(entry).value)),
-        None => None,
-    }
+    let from = entry_past(bits, after, part)?;
+    next_set_in(leaf.states(), bits, part, block_corner(bits, part), from)
 }
 
-/// Returns the answer of `first_in_leaf` if `after` and the leaf's next voxel whose state is on both lie in the part. Otherwise
-/// it returns `None`, and a later voxel may still exist. It is the fast path, for most voxels of a leaf.
+/// Begins the run of voxels that follow `p` along z in the part and whose states are on, as far as the eight entries around that
+/// of `p` reach.
 #[inline(always)]
-fn near_in_leaf<V: Stored<W>, const F: u32, const W: usize>(
+fn begin_run<V: Stored<W>, const F: u32, const W: usize>(
+    run: &mut Run<V>,
     leaf: &Leaf<V, F, W>,
-    bits: Bits,
-    after: Option<Coord>,
     part: Bounds,
-) -> Option<(Coord, V)>
-    requires configured { AreBits bits }
-    requires leaf { bits.leaf ≡ F }
+    p: Coord,
+    entry: u32,
+)
+    requires some { 1 ≤ F }
     requires few_words { W ≤ 512 }
-    requires capacity { entries bits leaf_level ≤ 64 * W }
-    requires block { IsInLeafBlock bits part }
-    ensures first { IfSome result (λ item. IsFirst bits (IsOnPast bits after leaf.now.states) part (Some item.0)) }
-    ensures value { IfSome result (λ item. (d : Cell V) → item.1 ≡ (cell_in d leaf.now (offset bits leaf_level item.0)).value) }
+    requires capacity { entry_count F ≤ 64 * W }
+    requires within { entry < entry_count F }
+    requires empty { run.old.end ≤ run.old.entry }
+    ensures run { run.new.entry < run.new.end → IsRunOf leaf.now part p entry run.new }
 {
-    let p = match after {
-        Some(p) => p,
-        None => return None,
-    };
-    if !part.contains(p) {
-        return None;
+    let (first, limit) = (entry / 8 * 8, entry / 8 * 8 + 8);
+    if entry + 1 < limit && leaf.states().test(entry + 1) {
+        leaf.copy_values(first, &mut run.values);
+        run.entry = entry + 1;
+        run.end = run_end(leaf.states(), part, p, entry).min(limit);
     }
-    let from = u32::from(p.offset_in(bits, Level::Leaf)) + 1;
-    let index = match leaf.states().next_on(from) {
-        Some(index) => index,
-        None => return None,
-    };
-    let voxel = voxel_at(bits, part.min(), block_corner(bits, part), index);
-    if !part.contains(voxel) {
-        return None;
-    }
-    Some((voxel, leaf.entry(index).value))
 }
 
 /// Returns the leaf's first entry past `after` among the coordinates of the part, which lies in the leaf's extent. Returns `None`

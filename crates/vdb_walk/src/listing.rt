@@ -1,14 +1,15 @@
 //! Lists the active voxels of a box in block order, one after another.
 
 ghost use Rattle.std.specs.Prelude.{◌≡◌, ◌≢◌, ◌↔◌, [], IfNone, IfSome, IsTrue, Some};
+ghost use Rattle.std.specs.Option.{option_map};
 ghost use Rattle.vdb_tree.specs.Layout.{bits_of, field_of};
 ghost use Rattle.vdb_coord.specs.Blocks.{is_past};
 ghost use Rattle.std.specs.List.{find};
-ghost use Rattle.vdb_walk.specs.internal.Listings.{IsListing};
+ghost use Rattle.vdb_walk.specs.internal.Listings.{IsAhead, IsListing};
 ghost use Rattle.vdb_walk.specs.Reports.{active, past, Yields, Listed};
 
 use crate::first_active::{begun, first_held, next_active, next_found};
-use crate::held::Held;
+use crate::held::{Held, Run};
 use std::marker::Model;
 use vdb_coord::{Bounds, Coord};
 use vdb_node::{Internal, Leaf, Stored};
@@ -31,6 +32,7 @@ pub struct Listing<
     tree: &'a TreeOf<V, U, L, F, WU, WL, WF>,
     walk: Walk<Internal<V, U, WU>, Internal<V, L, WL>, Leaf<V, F, WF>>,
     part: Option<Held<V>>,
+    run: Run<V>,
     last: Option<Coord>,
     left: u32,
 }
@@ -46,7 +48,7 @@ impl<
     const WF: usize,
 > Model for Listing<'a, V, U, L, F, WU, WL, WF> {
     ghost use Rattle.vdb_tree.specs.Layout.{bits_of, field_of};
-    ghost use Rattle.vdb_walk.specs.internal.Listings.{IsListing};
+    ghost use Rattle.vdb_walk.specs.internal.Listings.{IsAhead, IsListing};
     ghost use Rattle.vdb_walk.specs.Reports.{active, past, Listed};
 
     ghost Value = { Listed V };
@@ -56,7 +58,7 @@ impl<
       left = l.left;
     } };
 
-    ghost invariant = { λ l. IsListing (bits_of U L F) l.tree.now l.last l.walk l.part };
+    ghost invariant = { λ l. IsListing (bits_of U L F) l.tree.now l.last l.walk l.part × IsAhead (bits_of U L F) l.tree.now l.last l.part l.run };
 }
 
 /// Returns the listing of the box's active voxels in block order. It yields at most `limit` voxels.
@@ -81,6 +83,7 @@ pub fn list<
         tree,
         walk: tree.parts(bounds, Skip::Inactive),
         part: None,
+        run: Run::empty(tree.background()),
         last: None,
         left: limit,
     }
@@ -110,6 +113,7 @@ pub(crate) fn list_past<
         tree,
         walk: begun(tree, last, bounds, steps),
         part: None,
+        run: Run::empty(tree.background()),
         last,
         left: limit,
     }
@@ -133,7 +137,8 @@ impl<
             return None;
         }
         let _ = self.tree.mask_words();
-        match yield_next(self.tree, self.last, &mut self.walk, &mut self.part, steps) {
+        let (walk, part, run) = (&mut self.walk, &mut self.part, &mut self.run);
+        match yield_next(self.tree, self.last, walk, part, run, steps) {
             Some(item) => {
                 self.last = Some(item.0);
                 self.left -= 1;
@@ -152,8 +157,8 @@ impl<
     }
 }
 
-/// Returns the first active voxel past the last one: from the part that the walk yielded last, or else from the rest of the walk.
-/// It sets the part to the one that holds the voxel.
+/// Returns the first active voxel past the last one: from the run, or else from the part that the walk yielded last, or else from
+/// the rest of the walk. It sets the part to the one that holds the voxel.
 fn yield_next<
     V: Stored<WU> + Stored<WL> + Stored<WF>,
     const U: u32,
@@ -167,16 +172,23 @@ fn yield_next<
     last: Option<Coord>,
     walk: &mut Walk<Internal<V, U, WU>, Internal<V, L, WL>, Leaf<V, F, WF>>,
     part: &mut Option<Held<V>>,
+    run: &mut Run<V>,
     steps: &mut Steps,
 ) -> Option<(Coord, V)>
-    requires { IsListing (bits_of U L F) tree.now last walk.old part.old }
+    requires listing { IsListing (bits_of U L F) tree.now last walk.old part.old }
+    requires run { IsAhead (bits_of U L F) tree.now last part.old run.old }
     ensures next { result ≡ find (λ item. is_past (bits_of U L F) last item.0) (active (bits_of U L F) (field_of (bits_of U L F) tree.now) walk.old.box) }
     ensures bounds { walk.new.box ≡ walk.old.box }
     ensures some { IfSome result (λ item. IsListing (bits_of U L F) tree.now (Some item.0) walk.new part.new) }
     ensures none { IfNone result (IsListing (bits_of U L F) tree.now last walk.new part.new) }
+    ensures run { IsAhead (bits_of U L F) tree.now (option_map (λ item. item.0) result) part.new run.new }
 {
+    if run.entry < run.end {
+        let p = last?;
+        return Some(run.step(p));
+    }
     if let Some(held) = *part {
-        let found = first_held(tree, last, walk, held, steps);
+        let found = first_held(tree, last, walk, held, run, steps);
         if found.is_some() {
             return found;
         }

@@ -14,26 +14,6 @@ use vdb_coord::{Bits, Bounds, Coord, Level};
 use vdb_mask::Mask;
 
 /// Returns the entry and the voxel of the part's first voxel whose state is on, from an entry of the leaf on, or `None` if no
-/// such voxel exists. The part lies in the extent of the leaf with these states.
-pub(crate) fn next_set<const W: usize>(
-    states: &Mask<W>,
-    bits: Bits,
-    part: Bounds,
-    from: u32,
-) -> Option<(u32, Coord)>
-    requires configured { AreBits bits }
-    requires few_words { W ≤ 512 }
-    requires past_end { IsOffFrom states.now (entries bits leaf_level) }
-    requires past_words { IsOffFrom states.now (64 * W) }
-    requires block { IsInFirstBlock bits part }
-    requires from_within { from ≤ 64 * W }
-    ensures next { IsNextSet bits states.now part from result }
-    ensures within { IfSome result (λ next. next.0 < 64 * W) }
-{
-    next_set_in(states, bits, part, block_corner(bits, part), from)
-}
-
-/// Returns the entry and the voxel of the part's first voxel whose state is on, from an entry of the leaf on, or `None` if no
 /// such voxel exists. The part lies in the leaf's extent, which has this least corner.
 pub(crate) fn next_set_in<const W: usize>(
     states: &Mask<W>,

@@ -1,4 +1,4 @@
-use Rattle.vdb_walk.proofs.Common.{◌∙◌, ap, rules, List, Box, Coord, bits_of, field_of, internal_small, leaf_small, active}
+use Rattle.vdb_walk.proofs.Common.{◌∙◌, ap, arith, rules, List, Box, Coord, bits_of, field_of, internal_small, leaf_small, active}
 use Rattle.vdb_walk.proofs.InOrder.{all_left}
 use Rattle.vdb_walk.proofs.PartSeeks.{listing_all}
 use Rattle.vdb_walk.proofs.listing.list.Goals as goal
@@ -17,7 +17,7 @@ parts-requires g c =
 
 pub invariant_of-result : goal.invariant_of-result
 invariant_of-result g c =
-    listing_all (bits_of g.row.U g.row.L g.row.F) c.args.tree.now c.parts.result c.args.bounds c.parts.ensures.walk c.parts.ensures.skip c.parts.ensures.bounds c.parts.ensures.at
+    (listing_all (bits_of g.row.U g.row.L g.row.F) c.args.tree.now c.parts.result c.args.bounds c.parts.ensures.walk c.parts.ensures.skip c.parts.ensures.bounds c.parts.ensures.at, λ some. let none = c.empty.ensures in absurd (omega (arith, some, none)))
 
 pub returns : goal.returns
 returns g c =

@@ -1,4 +1,4 @@
-use Rattle.vdb_walk.proofs.Common.{ap, rules, Box, bits_of, field_of, internal_small, leaf_small, active, past}
+use Rattle.vdb_walk.proofs.Common.{ap, arith, rules, Box, bits_of, field_of, internal_small, leaf_small, active, past}
 use Rattle.vdb_walk.proofs.listing.list_past.Goals as goal
 
 pub begun-requires : goal.begun-requires
@@ -14,7 +14,7 @@ begun-requires g c =
     )
 
 pub invariant_of-result : goal.invariant_of-result
-invariant_of-result g c = c.begun.ensures.listing
+invariant_of-result g c = (c.begun.ensures.listing, λ some. let none = c.empty.ensures in absurd (omega (arith, some, none)))
 
 pub returns : goal.returns
 returns g c =
