@@ -254,56 +254,6 @@ fn put_each_pair<W: Write, const C: u32>(
     Ok(())
 }
 
-/// Writes a grid's root limit and its metadata pairs.
-fn put_head<W: Write, const C: u32>(
-    out: &mut Output<C>,
-    writer: &mut Watched<W>,
-    grid: &AnyGrid,
-    metas: &Metas,
-) -> Result<(), SaveFault>
-    ensures counts { C ≡ 1 → IsOk result }
-    ensures puts { OnOk result (Puts (sent C out.old (W.contents (source writer.old))) (sent C out.new (W.contents (source writer.new)))
-        (to_be_bytes w32 (grid_root_limit grid.now) ++ pairs_bytes metas.now)) }
-    ensures failed { has_failed writer.new ≡ (has_failed writer.old || is_err result) }
-{
-    put_limit(out, writer, grid)?;
-    put_pairs(out, writer, metas)
-}
-
-/// Writes a grid's root limit, its metadata pairs and its root blocks.
-fn put_rest<W: Write, const C: u32>(
-    out: &mut Output<C>,
-    writer: &mut Watched<W>,
-    grid: &AnyGrid,
-    metas: &Metas,
-    steps: &mut Steps,
-) -> Result<(), SaveFault>
-    ensures counts { C ≡ 1 → IsOk result }
-    ensures puts { OnOk result (Puts (sent C out.old (W.contents (source writer.old))) (sent C out.new (W.contents (source writer.new)))
-        ((to_be_bytes w32 (grid_root_limit grid.now) ++ pairs_bytes metas.now) ++ roots_bytes scalar_eq scalar_bytes vdb (grid_field grid.now))) }
-    ensures failed { has_failed writer.new ≡ (has_failed writer.old || is_err result) }
-{
-    put_head(out, writer, grid, metas)?;
-    put_field(out, writer, grid, steps)
-}
-
-/// Writes all of a grid except its name.
-fn put_grid<W: Write, const C: u32>(
-    out: &mut Output<C>,
-    writer: &mut Watched<W>,
-    grid: &AnyGrid,
-    metas: &Metas,
-    steps: &mut Steps,
-) -> Result<(), SaveFault>
-    ensures counts { C ≡ 1 → IsOk result }
-    ensures puts { OnOk result (Puts (sent C out.old (W.contents (source writer.old))) (sent C out.new (W.contents (source writer.new)))
-        (kind_bytes (grid_field grid.now).background ++ ((to_be_bytes w32 (grid_root_limit grid.now) ++ pairs_bytes metas.now) ++ roots_bytes scalar_eq scalar_bytes vdb (grid_field grid.now)))) }
-    ensures failed { has_failed writer.new ≡ (has_failed writer.old || is_err result) }
-{
-    put_background(out, writer, grid)?;
-    put_rest(out, writer, grid, metas, steps)
-}
-
 /// Writes a name, and then its grid.
 fn put_entry<W: Write, const C: u32>(
     out: &mut Output<C>,
@@ -319,7 +269,10 @@ fn put_entry<W: Write, const C: u32>(
     ensures failed { has_failed writer.new ≡ (has_failed writer.old || is_err result) }
 {
     put_counted(out, writer, name.bytes())?;
-    put_grid(out, writer, grid, metas, steps)
+    put_background(out, writer, grid)?;
+    put_limit(out, writer, grid)?;
+    put_pairs(out, writer, metas)?;
+    put_field(out, writer, grid, steps)
 }
 
 /// Writes a name, and then the scene's grid of that name.

@@ -98,13 +98,6 @@ pub(crate) fn compose(parts: &[&[u8]]) -> ArrayVec<u8, ANSWER_LIMIT>
     composed
 }
 
-/// Returns the line of an error.
-fn refusal_line(refusal: Refusal) -> ArrayVec<u8, ANSWER_LIMIT>
-    ensures { result.items ≡ text (replies.Refused refusal) }
-{
-    compose([b"error".as_slice(), refusal_word(refusal)].as_slice())
-}
-
 /// Returns the last line of an answer: the number of the lines before it.
 pub(crate) fn end_line(count: u64) -> ArrayVec<u8, ANSWER_LIMIT>
     ensures { result.items ≡ last_line (codes "end") count }
@@ -131,7 +124,8 @@ fn print_refusal<W: Write>(refusal: Refusal, writer: &mut Watched<W>) -> Result<
     ensures writes { Writes (W.contents (source writer.old)) (W.contents (source writer.new)) result (text (replies.Refused refusal)) }
     ensures failed { has_failed writer.new ≡ (has_failed writer.old || is_err result) }
 {
-    write_bytes(writer, refusal_line(refusal).as_slice())
+    let line = compose([b"error".as_slice(), refusal_word(refusal)].as_slice());
+    write_bytes(writer, line.as_slice())
 }
 
 /// Writes the line of a cell.

@@ -21,7 +21,9 @@ pub(crate) fn print_count<W: Write>(active: u128, writer: &mut Watched<W>) -> Re
     ensures writes { Writes (W.contents (source writer.old)) (W.contents (source writer.new)) result (text (replies.Count active)) }
     ensures failed { has_failed writer.new ≡ (has_failed writer.old || is_err result) }
 {
-    write_bytes(writer, count_line(active).as_slice())
+    let mut buffer = Buffer::new();
+    let line = compose([b"count".as_slice(), buffer.format(active).as_bytes()].as_slice());
+    write_bytes(writer, line.as_slice())
 }
 
 /// Writes the line of the bounding box of the active voxels, if any.
@@ -44,14 +46,6 @@ pub(crate) fn print_census<W: Write>(
     ensures failed { has_failed writer.new ≡ (has_failed writer.old || is_err result) }
 {
     write_bytes(writer, census_line(counts).as_slice())
-}
-
-/// Returns the line of a count.
-fn count_line(active: u128) -> ArrayVec<u8, ANSWER_LIMIT>
-    ensures { result.items ≡ text (replies.Count active) }
-{
-    let mut buffer = Buffer::new();
-    compose([b"count".as_slice(), buffer.format(active).as_bytes()].as_slice())
 }
 
 /// Returns the line of the bounding box of the active voxels, if any.

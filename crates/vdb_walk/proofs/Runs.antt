@@ -123,12 +123,9 @@ module _ {V : Type 0} (bits : Bits) (t : Layout V) (p : Coord) (walk : TreeWalk 
     pub listing : IsListing bits t (Some item.0) walk part
     pub ahead : IsAhead bits t (Some item.0) part rest
 
-  fits_below : (z : ℤ) → (z +ℤ pos 1) ≤ℤ pos 2147483647 → z <ℤ pos 2147483647
-  fits_below z h = omega (arith, ints, h)
-
   fits_of : (part : Option (Held V)) → IsAhead bits t (Some p) part run → p.z <ℤ pos 2147483647
   fits_of None ahead = absurd (ahead some)
-  fits_of (Some held) ahead = fits_below p.z (next_fits bits t held.bounds p run (ahead some) some).1
+  fits_of (Some held) ahead = let fits = (next_fits bits t held.bounds p run (ahead some) some).1 in omega (arith, ints, fits)
 
   after_p : (part : Option (Held V)) → IsListing bits t (Some p) walk part → IsAhead bits t (Some p) part run → (value : V) → ((e : V) → slice_index_or run.values (run.entry % 8) e ≡ value)
       → Follows (Some p) part (following, value) (record { entry = run.entry + 1; end = run.end; values = run.values })
@@ -161,7 +158,4 @@ module _ {V : Type 0} (bits : Bits) (t : Layout V) (p : Coord) (walk : TreeWalk 
 -- no run follows where nothing was found
 pub not_ahead : {V : Type 0} (bits : Bits) (t : Layout V) (found : Option (Coord × V)) (part : Option (Held V)) (run : Run V) → is_some found ≡ false → IsAhead bits t (option_map (λ item. item.0) found) part run → run.entry < run.end → ⊥
 not_ahead bits t None part run none ahead some = ahead some
-not_ahead bits t (Some item) part run none ahead some = true_false none
-  where
-    true_false : true ≡ false → ⊥
-    true_false e = cc
+not_ahead bits t (Some item) part run none ahead some = cc

@@ -1,5 +1,5 @@
 -- The voxels of a leaf in a box, one after another.
-use Rattle.vdb_walk.proofs.Common.{◌≡◌, ◌⊎◌, inl, inr, sym, ap, ◌∙◌, ℕ, ◌+◌, ◌<◌, ◌≤◌, Bool, true, false, List, arith, Some, block_around, block_number, entries, offset, sub_block, Box, is_inside, Bits, Coord, Leaf, corner_of_entry, voxel_from_leaf, is_on, IsOffFrom, is_set, IsInFirstBlock, IsNextSet, IsNextSetAt}
+use Rattle.vdb_walk.proofs.Common.{◌≡◌, ◌⊎◌, inl, inr, sym, ap, ◌∙◌, ℕ, ◌+◌, ◌<◌, ◌≤◌, Bool, true, false, List, arith, Some, block_around, block_number, entries, offset, sub_block, Box, is_inside, Bits, Coord, Leaf, corner_of_entry, voxel_from_leaf, is_on, IsOffFrom, is_set, IsInFirstBlock, IsNextSet}
 use Rattle.vdb_mask.specs.Mask.{IsNextAt}
 
 false_true : false ≡ true → ⊥

@@ -1,5 +1,5 @@
-use Rattle.vdb_walk.proofs.Common.{◌∙◌, ◌+◌, ◌<◌, ◌≤◌, ◌≡◌, ℕ, length, ap, arith, rules, refl, subst, sym, cell_in, leaf_small}
-use Rattle.std.proofs.Common.{◌/◌, ◌%◌}
+use Rattle.vdb_walk.proofs.Common.{◌∙◌, ◌+◌, ◌<◌, ◌≤◌, ◌≡◌, ℕ, length, ap, arith, rules, refl, cell_in, leaf_small}
+use Rattle.std.proofs.Common.{◌%◌}
 use Rattle.vdb_walk.proofs.Runs.{group_within, in_group, same_least}
 use Rattle.vdb_walk.proofs.first_active.begin_run.Goals as goal
 

@@ -1,4 +1,4 @@
-use Rattle.vdb_walk.proofs.Common.{◌*◌, ◌≤◌, ap, subst, sym, None, Some, option_map, entries, Bits, Leaf, bits_of, field_of, leaf_small, IsInLeafBlock, IsOnPast}
+use Rattle.vdb_walk.proofs.Common.{◌*◌, ◌≤◌, ap, subst, sym, None, Some, option_map, entries, Bits, Leaf, bits_of, field_of, leaf_small, IsInLeafBlock}
 use Rattle.vdb_walk.proofs.PartSeeks.{IsTilePast, leaf_entry_value, leaf_first, tile_first, tile_value}
 use Rattle.vdb_walk.proofs.first_active.first_in.Goals as goal
 
