@@ -37,9 +37,12 @@ fn digits_value(digits: &[u8]) -> Option<u64>
         if !digit.is_ascii_digit() {
             return None;
         }
-        value = value
-            .saturating_mul(10)
-            .saturating_add(u64::from(*digit - b'0'));
+        let digit = u64::from(*digit - b'0');
+        value = if value < u64::MAX / 10 {
+            10 * value + digit
+        } else {
+            value.saturating_mul(10).saturating_add(digit)
+        };
     }
     Some(value)
 }

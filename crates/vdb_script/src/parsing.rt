@@ -152,6 +152,7 @@ fn get_command(tokens: &[&[u8]]) -> Option<Command>
 }
 
 /// Returns the parts `NAME ACCESSOR X Y Z VALUE` of a command that writes a value to a voxel.
+#[inline(always)]
 fn voxel_value(tokens: &[&[u8]]) -> Option<(Name, Option<Num>, Point, Literal)>
     ensures { (make : List ℕ → Option Num → Point → Literal → Command)
         → ok_or (option_map (λ parts. Some (make parts.0 parts.1 parts.2 parts.3)) result) Refusal.Syntax ≡ whole (voxel_value make (map (λ t. t.now) tokens.now)) }
@@ -365,8 +366,8 @@ fn is_word(token: &[u8], word: &[u8]) -> bool
     token == word
 }
 
-/// Returns the command of a word and the tokens after it. Commands on voxels come first, and each group has a function of its
-/// own: most lines have a command on a voxel, and a function reserves stack space for everything that it may call.
+/// Returns the command of a word and the tokens after it. Commands on voxels come first, and the others have a function of their
+/// own: most lines have a command on a voxel, and a function clears stack space for everything that is inlined into it.
 fn command_of(word: &[u8], tokens: &[&[u8]]) -> Option<Command>
     ensures { ok_or (option_map Some result) Refusal.Syntax ≡ command_of word.now (map (λ t. t.now) tokens.now) }
 {
@@ -386,6 +387,7 @@ fn command_of(word: &[u8], tokens: &[&[u8]]) -> Option<Command>
 }
 
 /// Returns the command of a word that is not of a command on a voxel.
+#[inline(never)]
 fn box_command_of(word: &[u8], tokens: &[&[u8]]) -> Option<Command>
     ensures { ok_or (option_map Some result) Refusal.Syntax ≡ command_among box_forms word.now (map (λ t. t.now) tokens.now) }
 {
