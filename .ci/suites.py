@@ -24,9 +24,9 @@ from typing import List, NamedTuple
 TOP = os.path.dirname(os.path.dirname(os.path.abspath(__file__)))
 # the only variables that reach the suites, since others change what they test, such as VDB and FUZZ_CALLS
 VARIABLES = ("PATH", "HOME", "USER", "LANG", "TERM", "TMPDIR", "VDB_KEPT")
-# what tests compile over OpenVDB, in the gaps of the proofs
-EARLY = """flock tools/openvdb make -s -j2 -C tools/openvdb all probe sanitized counted
-flock bench/openvdb make -s -C bench/openvdb unoptimised"""
+# what tests compile over OpenVDB: it needs no proof, so it fills the gaps of the proofs
+EARLY = """flock tools/openvdb make -s -j2 -C tools/openvdb all probe sanitized counted &
+flock bench/openvdb make -s -C bench/openvdb unoptimised; wait"""
 # what a release is made of
 BUILT = ("crates/vdb/out/vdb", "crates/vdb_c/out/libvdb_c.a")
 CLOSING = re.compile(r"^(\d+) passed, (\d+) failed(?:, (\d+) skipped)?$", re.M)
@@ -60,10 +60,7 @@ class Result(NamedTuple):
 
 
 def stages(options):
-    """The suites of CI. Those of a stage run side by side, one more than there are processors, the stages one after the other.
-
-    Four processors are not busy all the time that the proofs take, so what needs no proof runs beside them, with the lowest priority.
-    """
+    """The suites of CI. Those of a stage run side by side, one more than there are processors, the stages one after the other."""
     python = with_numpy()
 
     def unittest(*words):
@@ -71,13 +68,11 @@ def stages(options):
 
     return [
         [Suite("texts of edits", ["edits/run", "--texts"], 800)],
-        [
-            Suite("proofs", [python, ".ci/proofs.py", *(it for it in options if it == "--anew")], 22),
-            Suite("library tests", ["nice", "-n", "19", "tests/library/run"], 235),
-        ],
+        [Suite("proofs", [python, ".ci/proofs.py", *(it for it in options if it == "--anew")], 22)],
         [Suite("libvdb", ["tools/build-libvdb"], 1)],
         [
             Suite("edits", ["nice", "-n", "10", "edits/run", "--ci"], 22),
+            Suite("library tests", ["tests/library/run"], 235),
             Suite("tests of tools/openvdb", ["tools/openvdb/test"], 1),
             Suite("fault injection", ["fault_injection/run"], 100_000),
             Suite("planted faults", ["fault_injection/planted.py", "some"], 10),
@@ -129,21 +124,21 @@ def install():
         print(f"These packages are missing, so tests may fail: {' '.join(lacking)}", flush=True)
 
 
-def run(suite, at_once):
-    """Runs a suite and prints its output: at once or at its end."""
+def run(suite, is_alone):
+    """Runs a suite and prints its output: at once if it runs alone, else at its end."""
     begun, said = time.time(), []
     environment = {name: os.environ[name] for name in VARIABLES if name in os.environ}
     how = {"stdin": subprocess.DEVNULL, "stdout": subprocess.PIPE, "stderr": subprocess.STDOUT, "text": True, "errors": "replace"}
     process = subprocess.Popen(["env", *suite.words], cwd=TOP, env=environment, **how)  # env reports a command that is missing
     for line in process.stdout:
         said.append(line)
-        if at_once:
+        if is_alone:
             print(line, end="", flush=True)
     _, status, usage = os.wait4(process.pid, 0)
     process.returncode = os.waitstatus_to_exitcode(status)
     text = "".join(said)
     passed, failed, skipped, why = counted(suite, text, process.returncode)
-    print("" if at_once else f"== {suite.name}\n{text}", *(f"{suite.name}: {it}\n" for it in why), sep="", end="", flush=True)
+    print("" if is_alone else f"== {suite.name}\n{text}", *(f"{suite.name}: {it}\n" for it in why), sep="", end="", flush=True)
     kept = re.findall(r"^kept from earlier runs: .*$", text, re.M)
     return Result(suite, passed, failed, skipped, time.time() - begun, usage.ru_utime + usage.ru_stime, kept)
 
@@ -201,11 +196,14 @@ def main():
     install()
     is_whole = "--proofs" not in options
     quiet = {"stdin": subprocess.DEVNULL, "stdout": subprocess.DEVNULL, "stderr": subprocess.DEVNULL}
-    early = subprocess.Popen(["nice", "-n", "19", "sh", "-c", EARLY if is_whole else ""], cwd=TOP, **quiet)  # a failure fails the tests
+    early = subprocess.Popen(["nice", "-n", "19", "sh", "-c", EARLY if is_whole else ""], cwd=TOP, **quiet)  # the tests report what fails
     for stage in stages(options):
-        chosen = [it for it in stage if is_whole or it.name == "proofs"]
+        if not is_whole and stage[0].name != "proofs":
+            continue
+        if len(stage) > 1:
+            early.wait()
         with concurrent.futures.ThreadPoolExecutor(len(os.sched_getaffinity(0)) + 1) as pool:
-            ended = [pool.submit(run, suite, suite is stage[0] and len(stage) < 3) for suite in chosen]
+            ended = [pool.submit(run, suite, len(stage) == 1) for suite in stage]
         results += [it.result() for it in ended]
         if any(it.failed for it in results):
             break

@@ -31,9 +31,12 @@ const LAST: usize = 65_536;
 
 fn main(rt: HostRuntime) -> ExitCode {
     let last = keep_freed_memory(rt.alloc());
-    let code = match collected(&rt) {
-        Ok(given) => run(&rt, given.as_slice()),
-        Err(_) => out_of_memory(&rt),
+    let code = match run(&rt) {
+        Ok(code) => code,
+        Err(_) => {
+            let _ = eprintln!(rt; "error: out of memory");
+            ExitCode::from(USAGE)
+        }
     };
     drop(last);
     code
@@ -58,27 +61,14 @@ fn block(alloc: Global, bytes: usize) -> Option<Vec<u8>> {
     Vec::with_capacity(alloc, bytes).ok()
 }
 
-/// Returns the words of the command line, the program's name first.
-fn collected(rt: &HostRuntime) -> io::Result<Vec<String>> {
-    Ok(env::args(rt)?.collect(rt.alloc())?)
-}
-
-/// Reads the command line, and carries it out.
-fn run(rt: &HostRuntime, given: &[String]) -> ExitCode {
-    let texts: Vec<&str> = match given.iter().map(|word| word.as_str()).collect(rt.alloc()) {
-        Ok(texts) => texts,
-        Err(_) => return out_of_memory(rt),
-    };
+/// Reads the command line, and carries it out. Fails if an allocation for its words fails.
+fn run(rt: &HostRuntime) -> io::Result<ExitCode> {
+    let given: Vec<String> = env::args(rt)?.collect(rt.alloc())?;
+    let texts: Vec<&str> = given.iter().map(|word| word.as_str()).collect(rt.alloc())?;
     match words(rt.alloc(), texts.as_slice()) {
-        Ok(named) => report_end(rt, carry_out(rt, &named)),
-        Err(fault) => report_usage(rt, &fault),
+        Ok(named) => Ok(report_end(rt, carry_out(rt, &named))),
+        Err(fault) => Ok(report_usage(rt, &fault)),
     }
-}
-
-/// Reports an allocation failure while the command line is read.
-fn out_of_memory(rt: &HostRuntime) -> ExitCode {
-    let _ = eprintln!(rt; "error: out of memory");
-    ExitCode::from(USAGE)
 }
 
 /// Prints why no session runs: help and the version to standard output, a fault of the command line to standard error.
