@@ -1,6 +1,6 @@
 -- Paths within one leaf extent.
 use Rattle.std.proofs.Common.{◌≡◌, ℕ, ◌+◌, ◌-◌, ◌≤◌, Bool, true, false, refl, sym, ap, subst, ◌∙◌, arith, inl, inr, List, rules}
-use Rattle.std.specs.Prelude.{Option, Some, None, IfSome, IsSome, is_some}
+use Rattle.std.specs.Prelude.{Option, Some, None, IfSome, IsSome, IsTrue, is_some}
 use Rattle.vdb_coord.specs.Blocks.{block_number, vdb}
 use Rattle.vdb_coord.specs.Space.{coord_eq}
 use Rattle.vdb_coord.specs.declared.Coord.{Coord}
@@ -10,6 +10,7 @@ use Rattle.vdb_coord.proofs.Nesting.{lower_from_leaf, upper_from_lower}
 use Rattle.vdb_coord.specs.declared.Level.{Level}
 use Rattle.vdb_node.specs.Leaf.{Leaf as LeafOf}
 use Rattle.vdb_node.specs.declared.Entry.{Entry}
+use Rattle.vdb_node.specs.declared.Entry.TheVariants.{Child, Tile}
 use Rattle.vdb_pool.specs.Contents.{Contents, node_at, with_node}
 use Rattle.vdb_pool.specs.declared.place.Place.{Place}
 use Rattle.vdb_value.specs.declared.Cell.{Cell}
@@ -17,17 +18,19 @@ use Rattle.vdb_tree.specs.declared.path.PathOf.TheVariants.{Empty, ToUpper, ToLo
 use Rattle.vdb_tree.specs.Layout.{Layout, entry_over}
 use Rattle.vdb_tree.specs.Leaves.{IsVoxelWritten}
 use Rattle.vdb_tree.specs.Nodes.{KeepsElsewhere}
-use Rattle.vdb_tree.specs.Paths.{IsWhole, Lives, TreePath, common, common_lower, common_upper, depth, down_count, ends_in_leaf}
+use Rattle.vdb_tree.specs.Layout.{lower_entry, root_entry, upper_entry}
+use Rattle.vdb_tree.specs.Paths.{IsWhole, Lives, TreePath, common, common_lower, common_upper, depth, down_count, ends_in_leaf, in_leaf, is_child, one_if_child}
 use Rattle.vdb_tree.proofs.Descents.{lower_by_block, root_by_block, upper_by_block}
 use Rattle.vdb_tree.proofs.Levels.{bool_cases}
 use Rattle.vdb_tree.proofs.Needed.{some_or_none}
+use Rattle.vdb_tree.proofs.NextChild.{leaf_below_lower, leaf_below_upper}
 use Rattle.vdb_tree.proofs.Paths.{common_lives, no_leaf_lower, no_leaf_upper}
-use Rattle.vdb_grid.specs.Grid.{ArePathsWhole, has_leaf, last, path}
+use Rattle.vdb_grid.specs.Grid.{ArePathsWhole, IsInLastLeaf, has_leaf, last, path}
 
 coord_self : (a b : Coord) → a ≡ b → coord_eq a b ≡ true
 coord_self a b e = rw e (coord_equiv.refl b)
 
-apart : true ≡ false → ⊥
+pub apart : true ≡ false → ⊥
 apart e = cc
 
 module _ {V : Type 0} (t : Layout V) (q p : Coord) where
@@ -92,6 +95,34 @@ whole_of_leaf t (ToLeaf u l f) p e h = record {
   lives = h;
   whole = let a = h.0.child in let b = h.1.child in let d = h.2.child in rw (d, b, a) refl;
 }
+
+module _ {V : Type 0} (t : Layout V) (p : Coord) where
+  one_of_child : (entry : Entry V) → IsTrue (is_child entry) → one_if_child entry ≡ 1
+  one_of_child (Child slot) h = refl
+  one_of_child (Tile cell) h = absurd (apart (sym h))
+
+  -- the descent to a voxel in a leaf meets three nodes
+  three_nodes : IsTrue (in_leaf vdb t p) → down_count vdb t p ≡ 3
+  three_nodes h =
+      let a = one_of_child (root_entry vdb t p) (leaf_below_upper vdb t p h) in
+      let b = one_of_child (upper_entry vdb t p) (leaf_below_lower vdb t p h) in
+      let c = one_of_child (lower_entry vdb t p) h in
+      rw (c, b, a) refl
+
+  leaf_of_depth : (path : TreePath V) → depth path ≡ 3 → ends_in_leaf path ≡ true
+  leaf_of_depth Empty e = cc
+  leaf_of_depth (ToUpper u) e = cc
+  leaf_of_depth (ToLower u l) e = cc
+  leaf_of_depth (ToLeaf u l f) e = refl
+
+  -- an accessor whose last coordinate lies in p's leaf caches the path to this leaf
+  pub last_leaf_found : (coords : List (Option Coord)) (paths : List (TreePath V)) (k : ℕ) (cached : Option Coord)
+      → ArePathsWhole t coords paths → last coords k ≡ cached → IsInLastLeaf t cached p → has_leaf cached (path paths k) p ≡ true
+  last_leaf_found coords paths k None h e near = absurd near
+  last_leaf_found coords paths k (Some q) h e near =
+      let whole = whole_same t q p (path paths k) near.0 (h k q e) in
+      let ends = leaf_of_depth (path paths k) (whole.whole ∙ three_nodes near.1) in
+      ap ends_in_leaf (common_same t q p (path paths k) near.0) ∙ ends
 
 module _ {V : Type 0} (t : Layout V) (q p : Coord) (path : TreePath V) where
   leaf_depth : (other : TreePath V) → ends_in_leaf other ≡ true → depth other ≡ 3

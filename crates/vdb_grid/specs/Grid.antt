@@ -1,9 +1,10 @@
 -- Grids: a tree with accessors, each of which caches the path to the coordinate that it was last given.
-use Rattle.std.specs.Prelude.{◌≡◌, ℕ, ⊤, Bool, false, List, Option, Some, None, slice_index_or}
-use Rattle.vdb_coord.specs.Blocks.{vdb}
+use Rattle.std.specs.Prelude.{◌≡◌, ℕ, ⊤, Bool, false, IsTrue, List, Option, Some, None, slice_index_or}
+use Rattle.vdb_coord.specs.Blocks.{block_number, vdb}
 use Rattle.vdb_coord.specs.declared.Coord.{Coord}
+use Rattle.vdb_coord.specs.declared.Level.TheVariants.{Leaf}
 use Rattle.vdb_tree.specs.Layout.{Layout}
-use Rattle.vdb_tree.specs.Paths.{IsWhole, Lives, TreePath, common, ends_in_leaf, ends_in_lower}
+use Rattle.vdb_tree.specs.Paths.{IsWhole, Lives, TreePath, common, ends_in_leaf, ends_in_lower, in_leaf}
 use Rattle.vdb_tree.specs.declared.path.PathOf.TheVariants.{Empty}
 
 -- a grid: a tree of the standard configuration, and for each accessor the coordinate that it was last given and a path
@@ -48,3 +49,8 @@ module _ {V : Type 0} where
   abbrev pub has_lower : Option Coord → TreePath V → Coord → Bool
   has_lower None cached p = false
   has_lower (Some q) cached p = ends_in_lower (common vdb q p cached)
+
+  -- a leaf holds p and the coordinate that an accessor was last given
+  abbrev pub IsInLastLeaf : Layout V → Option Coord → Coord → Type 0
+  IsInLastLeaf tree None p = ⊥
+  IsInLastLeaf tree (Some q) p = (block_number vdb Leaf q ≡ block_number vdb Leaf p) × IsTrue (in_leaf vdb tree p)

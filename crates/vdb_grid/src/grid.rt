@@ -14,7 +14,7 @@ ghost use Rattle.vdb_tree.specs.Paths.{common, depth, down_count, in_leaf, IsWho
 ghost use Rattle.vdb_tree.specs.Table.{HasCapacity};
 ghost use Rattle.vdb_tree.specs.declared.path.PathOf.TheVariants.{Empty};
 ghost use Rattle.vdb_tree.specs.declared.refusal.TreeRefusal.TheVariants.{Memory};
-ghost use Rattle.vdb_grid.specs.Grid.{has_leaf, has_lower, last, path};
+ghost use Rattle.vdb_grid.specs.Grid.{IsInLastLeaf, has_leaf, has_lower, last, path};
 
 use crate::accessors::{nowhere, retrace};
 use std::alloc::Global;
@@ -300,6 +300,7 @@ impl<V: Stored<512> + Stored<64> + Stored<8>, const K: usize> Grid<V, K> {
         ensures last { self.new.coords ≡ slice_set self.old.coords k (Some p) }
         ensures near { IsTrue (has_leaf (last self.old.coords k) (path self.old.paths k) p)
             → IsOk result × IsVoxelWritten vdb self.old.tree self.new.tree p (written change ((field_of vdb self.old.tree).cell p)) × (steps.new ≤ steps.old + 1) }
+        ensures last_leaf { IsInLastLeaf self.old.tree (last self.old.coords k) p → steps.new ≤ steps.old + 1 }
         ensures elsewhere { HasCapacity self.old.tree (key vdb p) → KeepsElsewhere vdb self.old.tree self.new.tree p }
         ensures unchanged { written change ((field_of vdb self.old.tree).cell p) ≡ (field_of vdb self.old.tree).cell p → IsOk result }
         ensures leaf { IsTrue (in_leaf vdb self.old.tree p) → IsOk result }
@@ -324,6 +325,7 @@ impl<V: Stored<512> + Stored<64> + Stored<8>, const K: usize> Grid<V, K> {
     fn write_near(&mut self, k: usize, p: Coord, change: Write<V>, steps: &mut Steps) -> bool
         requires { k < K }
         ensures answer { result ≡ has_leaf (last self.old.coords k) (path self.old.paths k) p }
+        ensures found { IsInLastLeaf self.old.tree (last self.old.coords k) p → IsTrue result }
         ensures outcome { IsTrue result → IsOutcome V.eq vdb self.old.tree.limit (field_of vdb self.old.tree)
             (write p change (field_of vdb self.old.tree)) (field_of vdb self.new.tree) (Ok tt) }
         ensures limit { self.new.tree.limit ≡ self.old.tree.limit }
@@ -346,6 +348,7 @@ impl<V: Stored<512> + Stored<64> + Stored<8>, const K: usize> Grid<V, K> {
     pub fn write_in_leaf(&mut self, k: usize, p: Coord, change: Write<V>, steps: &mut Steps) -> bool
         requires { k < K }
         ensures answer { result ≡ has_leaf (last self.old.coords k) (path self.old.paths k) p }
+        ensures found { IsInLastLeaf self.old.tree (last self.old.coords k) p → IsTrue result }
         ensures outcome { IsTrue result → IsOutcome V.eq vdb self.old.tree.limit (field_of vdb self.old.tree)
             (write p change (field_of vdb self.old.tree)) (field_of vdb self.new.tree) (Ok tt) }
         ensures limit { self.new.tree.limit ≡ self.old.tree.limit }

@@ -2,7 +2,7 @@
 use Rattle.vdb_scene.proofs.Common.{◌≡◌, refl, sym, ap, ◌∙◌, rules, ℕ, true, false, List, ◌∷◌, Option, Some, None, is_none, is_some, IsSome, Ok, Err, lookup, set_value, Coord, CarriesOut, LeavesTrees, PutsGrid, changed_name, coords_by, grid_coords, grid_field, grid_root_limit, grid_of, scene_over, first_of_all, no_grid, same_grid, field_at, grid_at, is_named, limit_at, IsReply, after, changed, first_refusal, refusal, takes_memory, tried, made_of, tried_of, AnyGrid, GridEntry, Done, Refusal, Unite, Subtract, Intersect, Maximum, Minimum, Sum, Replace, Operation, States, Values}
 use Rattle.std.specs.Cmp.Lexicographic.{pointwise, texts_ties}
 use Rattle.std.specs.Prelude.{nat_eq}
-use Rattle.vdb_scene.specs.Doing.{PutsTree}
+use Rattle.vdb_scene.specs.Doing.{GivesBack, PutsTree}
 use Rattle.vdb_scene.specs.Replies as replies
 use Rattle.vdb_scene.specs.Scene as abstract_scene
 use Rattle.vdb_scene.specs.TwoGrids.{IsMade, StaysBut, command_of}
@@ -141,11 +141,22 @@ first_keeps (Values Minimum) name other coords = refl
 first_keeps (Values Sum) name other coords = refl
 first_keeps (Values Replace) name other coords = refl
 
+-- and after an allocation failure it is any grid
+first_gives : (o : Operation) (name other : List ℕ) (g : AnyGrid) → GivesBack (command_of o name other) g
+first_gives (States Unite) name other g = tt
+first_gives (States Subtract) name other g = tt
+first_gives (States Intersect) name other g = tt
+first_gives (Values Maximum) name other g = tt
+first_gives (Values Minimum) name other g = tt
+first_gives (Values Sum) name other g = tt
+first_gives (Values Replace) name other g = tt
+
 -- the trees after an error
 pub refused_trees : (o : Operation) (old new : Scene) (name other : List ℕ) (was : GridEntry) (grid : AnyGrid) (r : Refusal) → lookup (is_named name) old.grids.entries ≡ Some was
     → PutsGrid old name (record was { grid = grid }) new → grid_coords grid ≡ grid_coords was.grid → StaysBut r was.grid grid → LeavesTrees (command_of o name other) (Refused r) old new
-refused_trees o old new name other was grid refusals.RootLimit there puts last stays = rw (first_changes o name other) (was, record was { grid = grid }, there, puts, last ∙ sym (first_keeps o name other (grid_coords was.grid)))
-refused_trees o old new name other was grid refusals.Memory there puts last stays = rw (first_changes o name other) (was, record was { grid = grid }, there, puts, last ∙ sym (first_keeps o name other (grid_coords was.grid)))
+refused_trees o old new name other was grid refusals.RootLimit there puts last stays = rw (first_changes o name other) (was, record was { grid = grid }, there, puts, last ∙ sym (first_keeps o name other (grid_coords was.grid)), tt)
+refused_trees o old new name other was grid refusals.Memory there puts last stays =
+    rw (first_changes o name other) (was, record was { grid = grid }, there, puts, last ∙ sym (first_keeps o name other (grid_coords was.grid)), first_gives o name other grid)
 refused_trees o old new name other was grid r there puts last stays =
     puts ∙ ap (λ (g : AnyGrid). set_value (is_named name) old.grids.entries (record was { grid = g })) stays ∙ set_value-found (is_named name) old.grids.entries was there
 

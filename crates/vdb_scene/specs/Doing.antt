@@ -1,12 +1,12 @@
 -- The results of calls that carry out a command.
-use Rattle.std.specs.Prelude.{◌≡◌, ℕ, Bool, true, false, List, Option, Some, None, Result, Ok, Err, IsTrue}
+use Rattle.std.specs.Prelude.{◌≡◌, ℕ, ⊤, Bool, true, false, List, Option, Some, None, Result, Ok, Err, IsTrue}
 use Rattle.std.specs.Ordering.{nat_cmp}
 use Rattle.std.specs.Cmp.Lexicographic.{slice_cmp}
 use Rattle.std.specs.Map.{lookup, remove_entry, set_value}
 use Rattle.std.specs.BTreeMap.{insert_entry}
 use Rattle.vdb_coord.specs.declared.Coord.{Coord}
 use Rattle.vdb_scene.specs.Accessors.{HasUnusedAccessors}
-use Rattle.vdb_scene.specs.Grids.{HasSameTree, IsCopyOf, IsPruned, IsVoxelised, coords_after, grid_coords, scene_of}
+use Rattle.vdb_scene.specs.Grids.{HasSameTree, IsCopyOf, IsInLeafOf, IsPruned, IsTiled, IsVoxelised, coords_after, grid_coords, scene_of}
 use Rattle.vdb_scene.specs.Scene as abstract_scene
 use Rattle.vdb_scene.specs.Scene.{is_named}
 use Rattle.vdb_scene.specs.Shown.{Shows}
@@ -84,7 +84,8 @@ PutsMetas old name new = (was : GridEntry) × (metas : Pairs) × (lookup (is_nam
 -- command changes, creates or removes. `get` and the writes of a voxel move the accessor that they name, and `get` nothing else;
 -- every other accessor keeps its coordinate. `grid` makes accessors that were never used, and `copy` the same tiles and nodes,
 -- and accessors without a coordinate.
--- `prune` leaves its grid pruned, and `voxelise` puts each active voxel of its box into a leaf of its grid.
+-- `fill` leaves each block of its box a tile, `prune` its grid pruned, and `voxelise` puts each active voxel of its box into a leaf of
+-- its grid.
 abbrev pub Shapes : Command → Scene → Scene → Type 0
 Shapes (commands.Grid name kind v limit) old new = (e : GridEntry) × AddsGrid old name e new × HasUnusedAccessors e.grid
 Shapes (commands.Drop name) old new = RemovesGrid old name new
@@ -94,7 +95,7 @@ Shapes (commands.Set name k p v) old new = (was : GridEntry) × (e : GridEntry) 
 Shapes (commands.Unset name k p v) old new = (was : GridEntry) × (e : GridEntry) × PutsAccessed old name k p was e new
 Shapes (commands.Only name k p v) old new = (was : GridEntry) × (e : GridEntry) × PutsAccessed old name k p was e new
 Shapes (commands.State name k p on) old new = (was : GridEntry) × (e : GridEntry) × PutsAccessed old name k p was e new
-Shapes (commands.Fill name c v on) old new = (was : GridEntry) × (e : GridEntry) × PutsTree old name was e new
+Shapes (commands.Fill name c v on) old new = (was : GridEntry) × (e : GridEntry) × PutsTree old name was e new × IsTiled e.grid (box_between c)
 Shapes (commands.Clip name c) old new = (was : GridEntry) × (e : GridEntry) × PutsTree old name was e new
 Shapes (commands.Prune name) old new = (was : GridEntry) × (e : GridEntry) × PutsTree old name was e new × IsPruned e.grid
 Shapes (commands.Voxelise name c) old new = (was : GridEntry) × (e : GridEntry) × PutsTree old name was e new × IsVoxelised e.grid (box_between c)
@@ -145,20 +146,40 @@ coords_by (commands.Only name k p v) = coords_after (accessor_of k) (coord_of p)
 coords_by (commands.State name k p on) = coords_after (accessor_of k) (coord_of p)
 coords_by c = λ coords. coords
 
--- every grid is unchanged, except the one of this name, if any, and its accessors have these coordinates
-abbrev pub KeepsOthers : (List (Option Coord) → List (Option Coord)) → Option (List ℕ) → Scene → Scene → Type 0
-KeepsOthers coords (Some name) old new =
-    (was : GridEntry) × (e : GridEntry) × (lookup (is_named name) old.grids.entries ≡ Some was) × PutsGrid old name e new × (grid_coords e.grid ≡ coords (grid_coords was.grid))
-KeepsOthers coords None old new = KeepsGrids old new
+-- the grid that a command changes after an allocation failure: `fill`, `clip` and `voxelise` leave it pruned
+abbrev pub GivesBack : Command → AnyGrid → Type 0
+GivesBack (commands.Fill name c v on) g = IsPruned g
+GivesBack (commands.Clip name c) g = IsPruned g
+GivesBack (commands.Voxelise name c) g = IsPruned g
+GivesBack c g = ⊤
+
+-- every grid is unchanged, except the one of this name, if any, which is such a grid, and whose accessors have these coordinates
+abbrev pub KeepsOthers : (List (Option Coord) → List (Option Coord)) → (AnyGrid → Type 0) → Option (List ℕ) → Scene → Scene → Type 0
+KeepsOthers coords Is (Some name) old new =
+    (was : GridEntry) × (e : GridEntry) × (lookup (is_named name) old.grids.entries ≡ Some was) × PutsGrid old name e new × (grid_coords e.grid ≡ coords (grid_coords was.grid)) × Is e.grid
+KeepsOthers coords Is None old new = KeepsGrids old new
 
 -- The trees after a command, by its answer: an error leaves each grid unchanged. `RootLimit` and `Memory` may
 -- come after some nodes were made, so they leave each other grid unchanged, and keep the cells of the changed grid
--- and, except for an accessor that the command names, the coordinates of its accessors.
+-- and, except for an accessor that the command names, the coordinates of its accessors. After `Memory` some commands leave it pruned.
 abbrev pub LeavesTrees : Command → Answer → Scene → Scene → Type 0
-LeavesTrees c (Refused refusals.RootLimit) old new = KeepsOthers (coords_by c) (changed_name c) old new
-LeavesTrees c (Refused refusals.Memory) old new = KeepsOthers (coords_by c) (changed_name c) old new
+LeavesTrees c (Refused refusals.RootLimit) old new = KeepsOthers (coords_by c) (λ g. ⊤) (changed_name c) old new
+LeavesTrees c (Refused refusals.Memory) old new = KeepsOthers (coords_by c) (GivesBack c) (changed_name c) old new
 LeavesTrees c (Refused r) old new = KeepsGrids old new
 LeavesTrees c answer old new = Shapes c old new
+
+-- a leaf of the grid holds the voxel and the coordinate that the accessor of the line was last given
+abbrev pub IsInLeafAt : Scene → List ℕ → Option Num → Point → Type 0
+IsInLeafAt s name k p = (was : GridEntry) × (lookup (is_named name) s.grids.entries ≡ Some was) × IsInLeafOf was.grid (accessor_of k) (coord_of p)
+
+-- the same for a command on a voxel
+abbrev pub IsNearby : Command → Scene → Type 0
+IsNearby (commands.Get name k p) s = IsInLeafAt s name k p
+IsNearby (commands.Set name k p v) s = IsInLeafAt s name k p
+IsNearby (commands.Unset name k p v) s = IsInLeafAt s name k p
+IsNearby (commands.Only name k p v) s = IsInLeafAt s name k p
+IsNearby (commands.State name k p on) s = IsInLeafAt s name k p
+IsNearby c s = ⊥
 
 -- the answer of a command that is carried out or fails
 abbrev pub answer_of : Result Answer Refusal → Answer

@@ -1,16 +1,19 @@
 -- The field of a grid of any type, and the abstract scene of a scene.
-use Rattle.std.specs.Prelude.{◌≡◌, ℕ, List, [], Option, Some, None, map, slice_set}
+use Rattle.std.specs.Prelude.{◌≡◌, ℕ, false, List, [], Option, Some, None, map, slice_set}
 use Rattle.std.proofs.Math.Bool.{beq}
 use Rattle.std.specs.Ordering.{int_eq}
 use Rattle.vdb_coord.specs.Blocks.{key, vdb}
 use Rattle.vdb_coord.specs.Space.{Box}
 use Rattle.vdb_coord.specs.declared.Coord.{Coord}
+use Rattle.vdb_coord.specs.declared.Level.{Level}
 use Rattle.vdb_tree.specs.Field.{Field, as_field_of}
-use Rattle.vdb_tree.specs.Layout.{field_of}
+use Rattle.vdb_tree.specs.Layout.{Layout, entry_over, field_of}
 use Rattle.vdb_tree.specs.Leaves.{HasLeaves}
-use Rattle.vdb_tree.specs.Nodes.{IsSameTree}
+use Rattle.vdb_tree.specs.Nodes.{IsSameTree, KeepsElsewhere}
+use Rattle.vdb_tree.specs.Paths.{is_child}
+use Rattle.vdb_tree.specs.SplitBox.{IsCovered}
 use Rattle.vdb_tree.specs.Table.{HasCapacity}
-use Rattle.vdb_grid.specs.Grid.{last}
+use Rattle.vdb_grid.specs.Grid.{IsInLastLeaf, last}
 use Rattle.vdb_tree.specs.Smallest.{IsLeast}
 use Rattle.vdb_scene.specs.Metas.{Pairs}
 use Rattle.vdb_scene.specs.Scene as abstract_scene
@@ -51,6 +54,16 @@ IsVoxelised (Bool g) box = HasLeaves vdb g.tree box
 IsVoxelised (I32 g) box = HasLeaves vdb g.tree box
 IsVoxelised (I64 g) box = HasLeaves vdb g.tree box
 
+-- each block of a tree that lies within the box is a tile
+abbrev pub HasTiles : {V : Type 0} → Layout V → Box → Type 0
+HasTiles t box = (level : Level) (p : Coord) → IsCovered vdb box level p → is_child (entry_over vdb level t p) ≡ false
+
+-- the same for its tree
+abbrev pub IsTiled : AnyGrid → Box → Type 0
+IsTiled (Bool g) box = HasTiles g.tree box
+IsTiled (I32 g) box = HasTiles g.tree box
+IsTiled (I64 g) box = HasTiles g.tree box
+
 -- the last coordinates of its accessors
 abbrev pub grid_coords : AnyGrid → List (Option Coord)
 grid_coords (Bool g) = g.coords
@@ -61,6 +74,24 @@ grid_coords (I64 g) = g.coords
 abbrev pub coords_after : Option ℕ → Coord → List (Option Coord) → List (Option Coord)
 coords_after None p coords = coords
 coords_after (Some k) p coords = slice_set coords k (Some p)
+
+-- the coordinate that this accessor was last given
+abbrev pub last_of : Option ℕ → List (Option Coord) → Option Coord
+last_of None coords = None
+last_of (Some k) coords = last coords k
+
+-- a leaf of its tree holds p and the coordinate that this accessor was last given
+abbrev pub IsInLeafOf : AnyGrid → Option ℕ → Coord → Type 0
+IsInLeafOf (Bool g) accessor p = IsInLastLeaf g.tree (last_of accessor g.coords) p
+IsInLeafOf (I32 g) accessor p = IsInLastLeaf g.tree (last_of accessor g.coords) p
+IsInLeafOf (I64 g) accessor p = IsInLastLeaf g.tree (last_of accessor g.coords) p
+
+-- every node and tile that doesn't hold p stays
+abbrev pub KeepsOutside : AnyGrid → AnyGrid → Coord → Type 0
+KeepsOutside (Bool g) (Bool h) p = KeepsElsewhere vdb g.tree h.tree p
+KeepsOutside (I32 g) (I32 h) p = KeepsElsewhere vdb g.tree h.tree p
+KeepsOutside (I64 g) (I64 h) p = KeepsElsewhere vdb g.tree h.tree p
+KeepsOutside g h p = ⊥
 
 -- two grids have equal trees
 abbrev pub HasSameTree : AnyGrid → AnyGrid → Type 0

@@ -1,5 +1,5 @@
 //! A grid of any type of values.
-ghost use Rattle.std.specs.Prelude.{◌≡◌, ◌+◌, ◌*◌, ◌<◌, ◌≤◌, ℕ, Some, false, IfErr, IfOk, IsOk, IsTrue, OnOk};
+ghost use Rattle.std.specs.Prelude.{◌≡◌, ◌+◌, ◌*◌, ◌<◌, ◌≤◌, ℕ, Some, Err, false, IfErr, IfOk, IsOk, IsTrue, OnOk};
 ghost use Rattle.std.specs.Option.{unwrap_or};
 ghost use Rattle.vdb_coord.specs.Blocks.{vdb};
 ghost use Rattle.vdb_coord.specs.Space.{everywhere};
@@ -11,7 +11,7 @@ ghost use Rattle.vdb_morph.specs.Growth.{IsGrowth};
 ghost use Rattle.vdb_walk.specs.Reports.{IsActiveBounds, census as census_of};
 ghost use Rattle.vdb_scene.specs.Accessors.{HasUnusedAccessors};
 ghost use Rattle.vdb_scene.specs.Scalars.{is_of, kind_of, scalar_eq};
-ghost use Rattle.vdb_scene.specs.Grids.{HasRootCapacity, HasSameTree, IsCopyOf, IsPruned, IsVoxelised, coords_after, grid_coords, grid_field, grid_root_limit};
+ghost use Rattle.vdb_scene.specs.Grids.{HasRootCapacity, HasSameTree, IsCopyOf, IsInLeafOf, IsPruned, IsTiled, IsVoxelised, KeepsOutside, coords_after, grid_coords, grid_field, grid_root_limit};
 ghost use Rattle.vdb_scene.specs.Step.{passes, write_takes_memory};
 ghost use Rattle.vdb_scene.specs.TwoGrids.{IsMade, StaysBut};
 
@@ -107,6 +107,7 @@ impl AnyGrid {
         ensures cell { result ≡ (grid_field self.old).cell at }
         ensures tree { HasSameTree self.old self.new }
         ensures last { grid_coords self.new ≡ coords_after accessor at (grid_coords self.old) }
+        ensures near { IsInLeafOf self.old accessor at → steps.new ≤ steps.old + 1 }
         ensures steps { steps.new ≤ steps.old + 3 }
     {
         match self {
@@ -136,6 +137,8 @@ impl AnyGrid {
         ensures limit { grid_root_limit self.new ≡ grid_root_limit self.old }
         ensures last { grid_coords self.new ≡ coords_after accessor at (grid_coords self.old) }
         ensures memory { write_takes_memory (grid_field self.old) at change ≡ false → IsOk result }
+        ensures elsewhere { HasRootCapacity self.old at → KeepsOutside self.old self.new at }
+        ensures near { IsInLeafOf self.old accessor at → steps.new ≤ steps.old + 1 }
         // No root block is counted, and no node is visited that doesn't hold the voxel or an accessor's coordinate.
         ensures steps { HasRootCapacity self.old at → steps.new ≤ steps.old + (8 + 3 * ACCESSORS) }
     {
@@ -146,10 +149,10 @@ impl AnyGrid {
         }
     }
 
-    /// Sets each voxel of a box to one cell, with a value of the grid's type.
+    /// Sets each voxel of a box to one cell, with a value of the grid's type. Each block of the tree that lies within the box becomes a tile.
     ///
     /// Fails with `RootLimit` if more root blocks than the limit would have a cell other than the inactive background, and with
-    /// `Memory` if an allocation fails. Both leave every cell unchanged.
+    /// `Memory` if an allocation fails. Both leave every cell unchanged. `Memory` prunes the grid.
     pub fn fill(
         &mut self,
         bounds: Bounds,
@@ -159,7 +162,9 @@ impl AnyGrid {
         requires { IsTrue (is_of (kind_of (grid_field self.old).background) cell.value) }
         ensures outcome { IsOutcome scalar_eq vdb (grid_root_limit self.old) (grid_field self.old) (filled bounds cell (grid_field self.old)) (grid_field self.new) result }
         ensures limit { grid_root_limit self.new ≡ grid_root_limit self.old }
+        ensures tiles { OnOk result (IsTiled self.new bounds) }
         ensures last { grid_coords self.new ≡ grid_coords self.old }
+        ensures given_back { result ≡ Err Memory → IsPruned self.new }
     {
         match self {
             AnyGrid::Bool(grid) => grid_tree::fill(grid, bounds, cell, steps),
@@ -168,13 +173,14 @@ impl AnyGrid {
         }
     }
 
-    /// Sets each voxel outside a box to the background, inactive. Fails with `Memory` if an allocation fails, and leaves every
-    /// cell unchanged.
+    /// Sets each voxel outside a box to the background, inactive. Fails with `Memory` if an allocation fails, leaves every cell
+    /// unchanged and prunes the grid.
     pub fn clip(&mut self, bounds: Bounds, steps: &mut Steps) -> Result<(), TreeRefusal>
         ensures outcome { IsOutcome scalar_eq vdb (grid_root_limit self.old) (grid_field self.old) (clipped bounds (grid_field self.old)) (grid_field self.new) result }
         ensures limit { grid_root_limit self.new ≡ grid_root_limit self.old }
         ensures last { grid_coords self.new ≡ grid_coords self.old }
         ensures memory { IfErr result (λ refusal. refusal ≡ Memory) }
+        ensures given_back { result ≡ Err Memory → IsPruned self.new }
     {
         match self {
             AnyGrid::Bool(grid) => grid_tree::clip(grid, bounds, steps),
@@ -308,13 +314,14 @@ impl AnyGrid {
         }
     }
 
-    /// Puts each active voxel of a box into a leaf. No cell changes. Fails with `Memory` if an allocation fails.
+    /// Puts each active voxel of a box into a leaf. No cell changes. Fails with `Memory` if an allocation fails, and prunes the grid.
     pub fn voxelise(&mut self, bounds: Bounds, steps: &mut Steps) -> Result<(), TreeRefusal>
         ensures field { grid_field self.new ≡ grid_field self.old }
         ensures limit { grid_root_limit self.new ≡ grid_root_limit self.old }
         ensures last { grid_coords self.new ≡ grid_coords self.old }
         ensures leaves { OnOk result (IsVoxelised self.new bounds) }
         ensures memory { IfErr result (λ refusal. refusal ≡ Memory) }
+        ensures given_back { IfErr result (λ _. IsPruned self.new) }
     {
         match self {
             AnyGrid::Bool(grid) => grid.voxelise(bounds, steps),

@@ -1,9 +1,9 @@
 //! The step of a scene by a command.
-ghost use Rattle.std.specs.Prelude.{◌≡◌, IfOk, IfErr, Some, ◌∷◌, [], false, true};
+ghost use Rattle.std.specs.Prelude.{◌≡◌, ◌+◌, ◌≤◌, IfOk, IfErr, Some, ◌∷◌, [], false, true};
 ghost use Rattle.std.specs.Borrow.{sem};
 ghost use Rattle.std.specs.Io.BufRead.{Rests};
 ghost use Rattle.vdb_scene.specs.internal.CommandGroups.{is_on_voxel};
-ghost use Rattle.vdb_scene.specs.Doing.{AppliesTo, CarriesOut, LeavesTrees, answer_of};
+ghost use Rattle.vdb_scene.specs.Doing.{AppliesTo, CarriesOut, IsNearby, LeavesTrees, answer_of};
 ghost use Rattle.vdb_scene.specs.Grids.{scene_of};
 ghost use Rattle.vdb_scene.specs.contracts.scene.Scene.{the_row};
 ghost use Rattle.vdb_scene.specs.Scalars.{has_form, has_value, scalar};
@@ -140,6 +140,7 @@ impl Scene {
     ) -> Result<Answer<'static>, Refusal>
         ensures step { CarriesOut (scene_of self.old) (commands.Get name.now accessor at.now) result (scene_of self.new) }
         ensures trees { LeavesTrees (commands.Get name.now accessor at.now) (answer_of result) self.old self.new }
+        ensures near { IsNearby (commands.Get name.now accessor at.now) self.old → steps.new ≤ steps.old + 1 }
     {
         let Some(entry) = self.grids.get_mut(name) else {
             return Err(Refusal::NoGrid);
@@ -163,6 +164,7 @@ impl Scene {
     ) -> Result<Answer<'static>, Refusal>
         ensures step { CarriesOut (scene_of self.old) (write_command name.now accessor at.now change) result (scene_of self.new) }
         ensures trees { LeavesTrees (write_command name.now accessor at.now change) (answer_of result) self.old self.new }
+        ensures near { IsNearby (write_command name.now accessor at.now change) self.old → steps.new ≤ steps.old + 1 }
     {
         let Some(entry) = self.grids.get_mut(name) else {
             return Err(Refusal::NoGrid);

@@ -1,21 +1,23 @@
 //! Calls on a grid of one type of values, or on its tree, in the terms of a grid of any type.
 
-ghost use Rattle.std.specs.Prelude.{◌≡◌, ◌≢◌, ◌&&◌, ◌+◌, ◌*◌, ◌<◌, ◌≤◌, ℕ, Some, false, if◌then◌else◌, IfErr, IsOk, IsTrue, Ok, slice_set};
+ghost use Rattle.std.specs.Prelude.{◌≡◌, ◌≢◌, ◌&&◌, ◌+◌, ◌*◌, ◌<◌, ◌≤◌, ℕ, Some, Err, false, if◌then◌else◌, IfErr, IsOk, IsTrue, Ok, OnOk, slice_set};
 ghost use Rattle.std.specs.Option.{unwrap_or};
 ghost use Rattle.vdb_coord.specs.Blocks.{key, vdb};
 ghost use Rattle.vdb_coord.specs.Space.{everywhere};
 ghost use Rattle.vdb_tree.specs.Field.{as_cell_of, as_field_of, as_write_of, clip as clipped, dilate as dilation, erode as erosion, fill as filled, iterations as iterated, write, written};
 ghost use Rattle.vdb_tree.specs.Layout.{field_of};
 ghost use Rattle.vdb_tree.specs.Leaves.{IsVoxelWritten};
+ghost use Rattle.vdb_tree.specs.Nodes.{KeepsElsewhere};
 ghost use Rattle.vdb_tree.specs.Outcome.{IsOutcome};
 ghost use Rattle.vdb_tree.specs.Paths.{IsWhole, in_leaf};
+ghost use Rattle.vdb_tree.specs.Smallest.{IsLeast};
 ghost use Rattle.vdb_tree.specs.Table.{HasCapacity};
 ghost use Rattle.vdb_tree.specs.ConstantBlocks.{count as active_count};
 ghost use Rattle.vdb_tree.specs.declared.Write.{Write};
 ghost use Rattle.vdb_tree.specs.declared.refusal.TreeRefusal.TheVariants.{Memory};
 ghost use Rattle.vdb_morph.specs.Growth.{IsGrowth};
-ghost use Rattle.vdb_grid.specs.Grid.{has_leaf, has_lower, last, path};
-ghost use Rattle.vdb_scene.specs.Grids.{coords_after};
+ghost use Rattle.vdb_grid.specs.Grid.{IsInLastLeaf, has_leaf, has_lower, last, path};
+ghost use Rattle.vdb_scene.specs.Grids.{HasTiles, coords_after, last_of};
 ghost use Rattle.vdb_scene.specs.Scalars.{is_of, scalar_eq};
 ghost use Rattle.vdb_scene.specs.Step.{passes, write_takes_memory};
 ghost use Rattle.vdb_walk.specs.Reports.{IsActiveBounds, census as census_of};
@@ -51,6 +53,7 @@ pub fn probe<V: GridValue>(
     ensures cell { result ≡ (as_field_of V.as_scalar (field_of vdb grid.old.tree)).cell at }
     ensures tree { grid.new.tree ≡ grid.old.tree }
     ensures last { grid.new.coords ≡ coords_after accessor at grid.old.coords }
+    ensures near { IsInLastLeaf grid.old.tree (last_of accessor grid.old.coords) at → steps.new ≤ steps.old + 1 }
     ensures steps { steps.new ≤ steps.old + 3 }
 {
     match accessor {
@@ -75,6 +78,8 @@ pub fn write<V: GridValue>(
     ensures limit { grid.new.tree.limit ≡ grid.old.tree.limit }
     ensures last { grid.new.coords ≡ coords_after accessor at grid.old.coords }
     ensures memory { write_takes_memory (as_field_of V.as_scalar (field_of vdb grid.old.tree)) at change ≡ false → IsOk result }
+    ensures elsewhere { HasCapacity grid.old.tree (key vdb at) → KeepsElsewhere vdb grid.old.tree grid.new.tree at }
+    ensures near { IsInLastLeaf grid.old.tree (last_of accessor grid.old.coords) at → steps.new ≤ steps.old + 1 }
     ensures steps { HasCapacity grid.old.tree (key vdb at) → steps.new ≤ steps.old + (8 + 3 * ACCESSORS) }
 {
     let change = of_kind(change);
@@ -150,7 +155,9 @@ pub fn fill<V: GridValue>(
     ensures outcome { IsOutcome scalar_eq vdb grid.old.tree.limit (as_field_of V.as_scalar (field_of vdb grid.old.tree))
         (filled bounds cell (as_field_of V.as_scalar (field_of vdb grid.old.tree))) (as_field_of V.as_scalar (field_of vdb grid.new.tree)) result }
     ensures limit { grid.new.tree.limit ≡ grid.old.tree.limit }
+    ensures tiles { OnOk result (HasTiles grid.new.tree bounds) }
     ensures last { grid.new.coords ≡ grid.old.coords }
+    ensures given_back { result ≡ Err Memory → IsLeast V.eq vdb grid.new.tree }
 {
     grid.fill(bounds, cell_of_kind(cell), steps)
 }
@@ -166,6 +173,7 @@ pub fn clip<V: GridValue>(
     ensures limit { grid.new.tree.limit ≡ grid.old.tree.limit }
     ensures last { grid.new.coords ≡ grid.old.coords }
     ensures memory { IfErr result (λ refusal. refusal ≡ Memory) }
+    ensures given_back { result ≡ Err Memory → IsLeast V.eq vdb grid.new.tree }
 {
     grid.clip(bounds, steps)
 }

@@ -56,3 +56,9 @@ returns-in-Some-clause-steps g c = λ room. c.write_by.ensures.steps (inl room)
 
 pub returns-in-None-clause-steps : goal.returns-in-None-clause-steps
 returns-in-None-clause-steps g c = λ room. omega (arith, c.set.ensures.steps (inl room))
+
+pub returns-in-Some-clause-near : goal.returns-in-Some-clause-near
+returns-in-Some-clause-near g c = rw c.in-Some.is c.write_by.ensures.last_leaf
+
+pub returns-in-None-clause-near : goal.returns-in-None-clause-near
+returns-in-None-clause-near g c = rw c.in-None.is (λ near. absurd near)

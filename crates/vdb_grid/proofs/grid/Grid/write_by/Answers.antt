@@ -1,6 +1,7 @@
-use Rattle.std.proofs.Common.{List, Option, Some, arith, ap, refl, set-set, slice_set, ◌∙◌}
+use Rattle.std.proofs.Common.{List, Option, Some, arith, ap, refl, set-set, slice_set, sym, ◌∙◌}
 use Rattle.vdb_coord.specs.declared.Coord.{Coord}
 use Rattle.vdb_grid.specs.Grid.{GridOf}
+use Rattle.vdb_grid.proofs.NearLeaves.{apart}
 use Rattle.vdb_grid.proofs.grid.Grid.write_by.Goals as goal
 
 pub returns-then-write_near-2-clause-outcome : goal.returns-then-write_near-2-clause-outcome
@@ -56,6 +57,12 @@ returns-clause-leaf g c =
     let e = c.write_near.ensures.untouched c.if-write_near.false in
     let f = c.write_near-2.ensures.untouched c.if-write_near-2.false in
     rw (← e, ← c.go_to.ensures.tree, ← f) c.write.ensures.leaf
+
+pub returns-then-write_near-2-clause-last_leaf : goal.returns-then-write_near-2-clause-last_leaf
+returns-then-write_near-2-clause-last_leaf g c = λ near. absurd (apart (sym (c.write_near.ensures.found near) ∙ c.if-write_near.false))
+
+pub returns-clause-last_leaf : goal.returns-clause-last_leaf
+returns-clause-last_leaf g c = λ near. absurd (apart (sym (c.write_near.ensures.found near) ∙ c.if-write_near.false))
 
 pub returns-clause-last : goal.returns-clause-last
 returns-clause-last g c =

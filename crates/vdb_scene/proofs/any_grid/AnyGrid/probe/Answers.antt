@@ -26,3 +26,12 @@ returns-in-I64-clause-tree c = rw c.in-I64.is c.probe-in-I64.ensures.tree
 
 pub returns-in-I64-clause-last : goal.returns-in-I64-clause-last
 returns-in-I64-clause-last c = rw c.in-I64.is c.probe-in-I64.ensures.last
+
+pub returns-in-Bool-clause-near : goal.returns-in-Bool-clause-near
+returns-in-Bool-clause-near c = rw c.in-Bool.is c.probe.ensures.near
+
+pub returns-in-I32-clause-near : goal.returns-in-I32-clause-near
+returns-in-I32-clause-near c = rw c.in-I32.is c.probe-in-I32.ensures.near
+
+pub returns-in-I64-clause-near : goal.returns-in-I64-clause-near
+returns-in-I64-clause-near c = rw c.in-I64.is c.probe-in-I64.ensures.near

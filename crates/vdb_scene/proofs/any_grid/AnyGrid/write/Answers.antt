@@ -35,3 +35,21 @@ returns-in-I32-clause-steps c = rw c.in-I32.is c.write-in-I32.ensures.steps
 
 pub returns-in-I64-clause-steps : goal.returns-in-I64-clause-steps
 returns-in-I64-clause-steps c = rw c.in-I64.is c.write-in-I64.ensures.steps
+
+pub returns-in-Bool-clause-elsewhere : goal.returns-in-Bool-clause-elsewhere
+returns-in-Bool-clause-elsewhere c = rw c.in-Bool.is c.write.ensures.elsewhere
+
+pub returns-in-Bool-clause-near : goal.returns-in-Bool-clause-near
+returns-in-Bool-clause-near c = rw c.in-Bool.is c.write.ensures.near
+
+pub returns-in-I32-clause-elsewhere : goal.returns-in-I32-clause-elsewhere
+returns-in-I32-clause-elsewhere c = rw c.in-I32.is c.write-in-I32.ensures.elsewhere
+
+pub returns-in-I32-clause-near : goal.returns-in-I32-clause-near
+returns-in-I32-clause-near c = rw c.in-I32.is c.write-in-I32.ensures.near
+
+pub returns-in-I64-clause-elsewhere : goal.returns-in-I64-clause-elsewhere
+returns-in-I64-clause-elsewhere c = rw c.in-I64.is c.write-in-I64.ensures.elsewhere
+
+pub returns-in-I64-clause-near : goal.returns-in-I64-clause-near
+returns-in-I64-clause-near c = rw c.in-I64.is c.write-in-I64.ensures.near

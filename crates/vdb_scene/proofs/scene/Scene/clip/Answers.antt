@@ -1,9 +1,9 @@
-use Rattle.vdb_scene.proofs.Common.{◌∙◌, ap, refl, sym, Some, err_from_is_err_and, clip, of_tree, changed, grid_field, grid_root_limit, scene_of}
+use Rattle.vdb_scene.proofs.Common.{◌∙◌, ap, refl, sym, Err, Some, err_from_is_err_and, clip, of_tree, changed, grid_field, grid_root_limit, scene_of}
 use Rattle.vdb_scene.specs.Replies as replies
 use Rattle.vdb_scene.proofs.Borrowed.{changed_field, found, kept, missing, same_scene, unchanged}
 use Rattle.vdb_scene.proofs.Steps.{corners_first, refused}
 use Rattle.vdb_scene.specs.declared.command.Command.TheVariants as commands
-use Rattle.vdb_scene.proofs.Trees.{refused_leaves, tree_refused_leaves}
+use Rattle.vdb_scene.proofs.Trees.{corners_refused, others_keep, same_back, tree_refused_leaves}
 use Rattle.vdb_scene.proofs.scene.Scene.clip.Goals as goal
 
 pub returns-in_default-clause-step : goal.returns-in_default-clause-step
@@ -48,12 +48,15 @@ returns-clause-step c =
 pub returns-in_err-bounds-clause-trees : goal.returns-in_err-bounds-clause-trees
 returns-in_err-bounds-clause-trees c =
     let exit = err_from_is_err_and c.from_residual.result c.from_residual.ensures.1 in
-    rw exit.1 (refused_leaves c.args.self.now (record c.args.self.now { grids = c.get_mut.follows.lender c.in-Some.entry.now }) (commands.Clip c.args.name.now c.args.corners.now) c.args.name.now refl c.in-Some.entry.now (c.get_mut.follows.holds c.in-Some.entry.now).0 _ (sym c.in-Some.ensures.value) (λ coords. refl))
+    rw exit.1 (others_keep c.args.self.now (record c.args.self.now { grids = c.get_mut.follows.lender c.in-Some.entry.now }) (commands.Clip c.args.name.now c.args.corners.now) _
+    (corners_refused _ _ _ (c.in_err-bounds.ensures.refusal ∙ ap Some (sym exit.2)))
+    (same_back c.args.self.now.grids.entries _ c.args.name.now c.in-Some.entry.now (sym c.in-Some.ensures.value) (c.get_mut.follows.holds c.in-Some.entry.now).0))
 
 pub returns-in_err-clip-clause-trees : goal.returns-in_err-clip-clause-trees
 returns-in_err-clip-clause-trees c =
     let exit = err_from_is_err_and c.from_residual-in_err-clip.result c.from_residual-in_err-clip.ensures.1 in
-    rw (exit.1, exit.2) (tree_refused_leaves c.args.self.now (record c.args.self.now { grids = c.get_mut.follows.lender (record c.in-Some.entry.now { grid = c.clip.new.self }) }) (commands.Clip c.args.name.now c.args.corners.now) c.args.name.now refl (record c.in-Some.entry.now { grid = c.clip.new.self }) (c.get_mut.follows.holds (record c.in-Some.entry.now { grid = c.clip.new.self })).0 c.in-Some.entry.now (sym c.in-Some.ensures.value) c.in_err-clip.ensures.last c.in_err-clip.field-0.0)
+    rw (exit.1, exit.2) (tree_refused_leaves c.args.self.now (record c.args.self.now { grids = c.get_mut.follows.lender (record c.in-Some.entry.now { grid = c.clip.new.self }) }) (commands.Clip c.args.name.now c.args.corners.now) c.args.name.now refl (record c.in-Some.entry.now { grid = c.clip.new.self }) (c.get_mut.follows.holds (record c.in-Some.entry.now { grid = c.clip.new.self })).0 c.in-Some.entry.now (sym c.in-Some.ensures.value) c.in_err-clip.ensures.last c.in_err-clip.field-0.0
+    (λ e. c.in_err-clip.ensures.given_back (ap Err e)))
 
 pub returns-clause-trees : goal.returns-clause-trees
 returns-clause-trees c = (c.in-Some.entry.now, record c.in-Some.entry.now { grid = c.clip.new.self }, (sym c.in-Some.ensures.value, (c.get_mut.follows.holds (record c.in-Some.entry.now { grid = c.clip.new.self })).0, c.in_ok-clip.ensures.last))

@@ -35,7 +35,7 @@ returns-in_default-iterations_of-clause-trees c = same_back c.args.self.now.grid
 pub returns-in_err-dilate-clause-trees : goal.returns-in_err-dilate-clause-trees
 returns-in_err-dilate-clause-trees c =
     let exit = err_from_is_err_and c.from_residual.result c.from_residual.ensures.1 in
-    rw (exit.1, exit.2) (tree_refused_leaves c.args.self.now (record c.args.self.now { grids = c.get_mut.follows.lender (record c.in-Some.entry.now { grid = c.dilate.new.self }) }) (commands.Dilate c.args.name.now c.args.iterations) c.args.name.now refl (record c.in-Some.entry.now { grid = c.dilate.new.self }) (c.get_mut.follows.holds (record c.in-Some.entry.now { grid = c.dilate.new.self })).0 c.in-Some.entry.now (sym c.in-Some.ensures.value) c.in_err-dilate.ensures.last c.in_err-dilate.field-0.0)
+    rw (exit.1, exit.2) (tree_refused_leaves c.args.self.now (record c.args.self.now { grids = c.get_mut.follows.lender (record c.in-Some.entry.now { grid = c.dilate.new.self }) }) (commands.Dilate c.args.name.now c.args.iterations) c.args.name.now refl (record c.in-Some.entry.now { grid = c.dilate.new.self }) (c.get_mut.follows.holds (record c.in-Some.entry.now { grid = c.dilate.new.self })).0 c.in-Some.entry.now (sym c.in-Some.ensures.value) c.in_err-dilate.ensures.last c.in_err-dilate.field-0.0 (λ _. tt))
 
 pub returns-clause-trees : goal.returns-clause-trees
 returns-clause-trees c = (c.in-Some.entry.now, record c.in-Some.entry.now { grid = c.dilate.new.self }, (sym c.in-Some.ensures.value, (c.get_mut.follows.holds (record c.in-Some.entry.now { grid = c.dilate.new.self })).0, c.in_ok-dilate.ensures.last))

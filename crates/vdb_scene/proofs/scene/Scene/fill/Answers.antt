@@ -1,7 +1,8 @@
-use Rattle.vdb_scene.proofs.Common.{◌∙◌, sym, ap, refl, err_from_is_err_and, Some, fill, grid_field, grid_root_limit}
+use Rattle.vdb_scene.proofs.Common.{◌∙◌, sym, subst, ap, refl, err_from_is_err_and, Err, Some, fill, grid_field, grid_root_limit}
 use Rattle.vdb_scene.proofs.Borrowed.{changed_field, kept, same_scene, unchanged}
 use Rattle.vdb_scene.proofs.Filling.{fill_corners_refused, fill_done, fill_missing, fill_refused, fill_value_refused}
-use Rattle.vdb_scene.proofs.Trees.{refused_leaves, tree_refused_leaves}
+use Rattle.vdb_scene.specs.Grids.{IsTiled}
+use Rattle.vdb_scene.proofs.Trees.{corners_refused, others_keep, same_back, tree_refused_leaves, value_refused}
 use Rattle.vdb_scene.specs.declared.command.Command.TheVariants as commands
 use Rattle.vdb_scene.proofs.scene.Scene.fill.Goals as goal
 
@@ -53,17 +54,22 @@ returns-clause-step c =
 pub returns-in_err-value-clause-trees : goal.returns-in_err-value-clause-trees
 returns-in_err-value-clause-trees c =
     let exit = err_from_is_err_and c.from_residual.result c.from_residual.ensures.1 in
-    rw exit.1 (refused_leaves c.args.self.now (record c.args.self.now { grids = c.get_mut.follows.lender c.in-Some.entry.now }) (commands.Fill c.args.name.now c.args.corners.now c.args.value c.args.on) c.args.name.now refl c.in-Some.entry.now (c.get_mut.follows.holds c.in-Some.entry.now).0 _ (sym c.in-Some.ensures.value) (λ coords. refl))
+    rw exit.1 (others_keep c.args.self.now (record c.args.self.now { grids = c.get_mut.follows.lender c.in-Some.entry.now }) (commands.Fill c.args.name.now c.args.corners.now c.args.value c.args.on) _
+    (value_refused _ _ _ (c.in_err-value.ensures.refusal ∙ ap Some (sym exit.2)))
+    (same_back c.args.self.now.grids.entries _ c.args.name.now c.in-Some.entry.now (sym c.in-Some.ensures.value) (c.get_mut.follows.holds c.in-Some.entry.now).0))
 
 pub returns-in_err-bounds-clause-trees : goal.returns-in_err-bounds-clause-trees
 returns-in_err-bounds-clause-trees c =
     let exit = err_from_is_err_and c.from_residual-in_err-bounds.result c.from_residual-in_err-bounds.ensures.1 in
-    rw exit.1 (refused_leaves c.args.self.now (record c.args.self.now { grids = c.get_mut.follows.lender c.in-Some.entry.now }) (commands.Fill c.args.name.now c.args.corners.now c.args.value c.args.on) c.args.name.now refl c.in-Some.entry.now (c.get_mut.follows.holds c.in-Some.entry.now).0 _ (sym c.in-Some.ensures.value) (λ coords. refl))
+    rw exit.1 (others_keep c.args.self.now (record c.args.self.now { grids = c.get_mut.follows.lender c.in-Some.entry.now }) (commands.Fill c.args.name.now c.args.corners.now c.args.value c.args.on) _
+    (corners_refused _ _ _ (c.in_err-bounds.ensures.refusal ∙ ap Some (sym exit.2)))
+    (same_back c.args.self.now.grids.entries _ c.args.name.now c.in-Some.entry.now (sym c.in-Some.ensures.value) (c.get_mut.follows.holds c.in-Some.entry.now).0))
 
 pub returns-in_err-fill-clause-trees : goal.returns-in_err-fill-clause-trees
 returns-in_err-fill-clause-trees c =
     let exit = err_from_is_err_and c.from_residual-in_err-fill.result c.from_residual-in_err-fill.ensures.1 in
-    rw (exit.1, exit.2) (tree_refused_leaves c.args.self.now (record c.args.self.now { grids = c.get_mut.follows.lender (record c.in-Some.entry.now { grid = c.fill.new.self }) }) (commands.Fill c.args.name.now c.args.corners.now c.args.value c.args.on) c.args.name.now refl (record c.in-Some.entry.now { grid = c.fill.new.self }) (c.get_mut.follows.holds (record c.in-Some.entry.now { grid = c.fill.new.self })).0 c.in-Some.entry.now (sym c.in-Some.ensures.value) c.in_err-fill.ensures.last c.in_err-fill.field-0.0)
+    rw (exit.1, exit.2) (tree_refused_leaves c.args.self.now (record c.args.self.now { grids = c.get_mut.follows.lender (record c.in-Some.entry.now { grid = c.fill.new.self }) }) (commands.Fill c.args.name.now c.args.corners.now c.args.value c.args.on) c.args.name.now refl (record c.in-Some.entry.now { grid = c.fill.new.self }) (c.get_mut.follows.holds (record c.in-Some.entry.now { grid = c.fill.new.self })).0 c.in-Some.entry.now (sym c.in-Some.ensures.value) c.in_err-fill.ensures.last c.in_err-fill.field-0.0
+    (λ e. c.in_err-fill.ensures.given_back (ap Err e)))
 
 pub returns-clause-trees : goal.returns-clause-trees
-returns-clause-trees c = (c.in-Some.entry.now, record c.in-Some.entry.now { grid = c.fill.new.self }, (sym c.in-Some.ensures.value, (c.get_mut.follows.holds (record c.in-Some.entry.now { grid = c.fill.new.self })).0, c.in_ok-fill.ensures.last))
+returns-clause-trees c = (c.in-Some.entry.now, record c.in-Some.entry.now { grid = c.fill.new.self }, (sym c.in-Some.ensures.value, (c.get_mut.follows.holds (record c.in-Some.entry.now { grid = c.fill.new.self })).0, c.in_ok-fill.ensures.last), subst (IsTiled c.fill.new.self) c.in_ok-bounds.ensures.bounds c.in_ok-fill.ensures.tiles)

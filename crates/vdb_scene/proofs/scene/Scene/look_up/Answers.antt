@@ -2,7 +2,7 @@ use Rattle.vdb_scene.proofs.Common.{sym, refl, err_from_is_err_and}
 use Rattle.vdb_scene.proofs.Borrowed.{same_scene}
 use Rattle.vdb_scene.proofs.Lookups.{get_accessor_refused, get_done, get_missing, get_coord_refused}
 use Rattle.vdb_scene.proofs.Steps.{test_fails, test_passes}
-use Rattle.vdb_scene.proofs.Trees.{accessed, same_back}
+use Rattle.vdb_scene.proofs.Trees.{accessed, in_leaf_by, same_back}
 use Rattle.vdb_scene.proofs.scene.Scene.look_up.Goals as goal
 
 pub returns-in_default-clause-step : goal.returns-in_default-clause-step
@@ -51,3 +51,8 @@ returns-clause-trees c =
       (sym c.in-Some.ensures.value, (c.get_mut.follows.holds (record c.in-Some.entry.now { grid = c.probe-cell.new.self })).0, accessed c.args.accessor c.args.at.now _ _ _ _ c.in_ok-accessor.ensures.number at.1 c.probe-cell.ensures.last),
       c.probe-cell.ensures.tree,
     )
+
+pub returns-clause-near : goal.returns-clause-near
+returns-clause-near c = λ near.
+    let at = test_passes _ _ _ (sym c.in-Some-named_coord.ensures) in
+    c.probe-cell.ensures.near (in_leaf_by c.args.self.now c.args.name.now c.args.accessor c.args.at.now c.in-Some.entry.now _ _ (sym c.in-Some.ensures.value) c.in_ok-accessor.ensures.number at.1 near)

@@ -2,7 +2,7 @@ use Rattle.vdb_scene.proofs.Common.{◌∙◌, sym, ap, refl, err_from_is_err_an
 use Rattle.vdb_scene.proofs.Borrowed.{changed_field, kept, same_scene, unchanged}
 use Rattle.vdb_scene.proofs.Steps.{test_fails, test_passes}
 use Rattle.vdb_scene.proofs.Writing.{write_accessor_refused, write_done, write_missing, write_coord_refused, write_refused, write_value_refused}
-use Rattle.vdb_scene.proofs.Trees.{accessed, others_keep, same_back, tree_refused_leaves, value_refused, write_changes, write_leaves, write_moves}
+use Rattle.vdb_scene.proofs.Trees.{accessed, in_leaf_by, others_keep, same_back, tree_refused_leaves, value_refused, write_changes, write_gives, write_in_leaf_by, write_leaves, write_moves}
 use Rattle.vdb_scene.proofs.scene.Scene.write.Goals as goal
 
 pub returns-in_default-clause-step : goal.returns-in_default-clause-step
@@ -90,4 +90,17 @@ returns-in_err-write-clause-trees c =
     let exit = err_from_is_err_and c.from_residual-in_err-write.result c.from_residual-in_err-write.ensures.1 in
     rw (exit.1, exit.2) (tree_refused_leaves c.args.self.now (record c.args.self.now { grids = c.get_mut.follows.lender (record c.in-Some.entry.now { grid = c.write.new.self }) }) (write_command c.args.name.now c.args.accessor c.args.at.now c.args.change) c.args.name.now (write_changes c.args.name.now c.args.accessor c.args.at.now c.args.change) (record c.in-Some.entry.now { grid = c.write.new.self }) (c.get_mut.follows.holds (record c.in-Some.entry.now { grid = c.write.new.self })).0
     c.in-Some.entry.now (sym c.in-Some.ensures.value)
-    (rw (write_moves c.args.name.now c.args.accessor c.args.at.now c.args.change) (accessed c.args.accessor c.args.at.now _ _ _ _ c.in_ok-accessor.ensures.number at.1 c.in_err-write.ensures.last)) c.in_err-write.field-0.0)
+    (rw (write_moves c.args.name.now c.args.accessor c.args.at.now c.args.change) (accessed c.args.accessor c.args.at.now _ _ _ _ c.in_ok-accessor.ensures.number at.1 c.in_err-write.ensures.last)) c.in_err-write.field-0.0
+    (λ _. write_gives c.args.name.now c.args.accessor c.args.at.now c.args.change c.write.new.self))
+
+pub returns-in_err-write-clause-near : goal.returns-in_err-write-clause-near
+returns-in_err-write-clause-near c = λ near.
+    let at = test_passes _ _ _ (sym c.in-Some-named_coord.ensures) in
+    c.in_err-write.ensures.near (in_leaf_by c.args.self.now c.args.name.now c.args.accessor c.args.at.now c.in-Some.entry.now _ _ (sym c.in-Some.ensures.value) c.in_ok-accessor.ensures.number at.1
+    (write_in_leaf_by c.args.self.now c.args.name.now c.args.accessor c.args.at.now c.args.change near))
+
+pub returns-clause-near : goal.returns-clause-near
+returns-clause-near c = λ near.
+    let at = test_passes _ _ _ (sym c.in-Some-named_coord.ensures) in
+    c.in_ok-write.ensures.near (in_leaf_by c.args.self.now c.args.name.now c.args.accessor c.args.at.now c.in-Some.entry.now _ _ (sym c.in-Some.ensures.value) c.in_ok-accessor.ensures.number at.1
+    (write_in_leaf_by c.args.self.now c.args.name.now c.args.accessor c.args.at.now c.args.change near))
