@@ -1,6 +1,6 @@
 use Rattle.vdb_tree.specs.Layout.{bits_of}
 use Rattle.vdb_tree.specs.Parts.{IsWalk, left_count}
-use Rattle.library_examples.proofs.shapes.print_parts.Given as goal
+use Rattle.library_examples.proofs.print_parts.Given as goal
 
 -- the walk is a walk over this tree
 abbrev pub invariant-parts : goal.invariant-parts
