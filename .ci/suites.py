@@ -1,12 +1,13 @@
 #!/usr/bin/env python3
 # SPDX-License-Identifier: Apache-2.0
-"""CI: installs packages, proves and builds every crate, and runs all tests: .ci/run [--anew] [--proofs]
+"""CI: installs packages, proves and builds every crate, and runs all tests: .ci/run [--anew] [--proofs | --quick]
 
+  --quick   proves and installs nothing: plays all rows through the unproved program, and runs what needs the kit and NumPy alone
   --anew    proves everything anew: takes nothing that earlier runs on this machine kept
   --proofs  only proves, and builds the program crates/vdb/out/vdb and the archive crates/vdb_c/out/libvdb_c.a
 
 It ends after the first stage in which something failed. The last lines say how long it took and how much is of earlier runs. The very last
-is 'N passed, M failed, K skipped'. The status is 0 if nothing failed.
+is 'N passed, M failed', and ', K skipped' if any were. The status is 0 if nothing failed.
 
 Example: .ci/run --anew
 """
@@ -66,32 +67,41 @@ def stages(options):
     def unittest(*words):
         return [python, "-m", "unittest", *words, "-v"]
 
+    if "--quick" in options:
+        of_scenefile = [f"tests/python/test_{name}.py" for name in ("format", "grids", "mesh")]
+        return [
+            [
+                Suite("unproved rows", ["tests/rows/unproved.py"], 240),
+                Suite("tests of vdb.scenefile", unittest(*of_scenefile), 50),
+                Suite("tests of rows and of the model", unittest("discover", "-s", "tests/rows"), 11),
+                Suite("documents", [python, "tests/documents/documents.py"], 1),
+            ]
+        ]
     return [
-        [Suite("texts of edits", ["edits/run", "--texts"], 800)],
-        [Suite("proofs", [python, ".ci/proofs.py", *(it for it in options if it == "--anew")], 22)],
+        [Suite("texts of edits", ["tests/edits/run", "--texts"], 400)],
+        [Suite("proofs", [python, ".ci/proofs.py", *(it for it in options if it == "--anew")], 19)],
         [Suite("libvdb", ["tools/build-libvdb"], 1)],
         [
-            Suite("edits", ["nice", "-n", "10", "edits/run", "--ci"], 22),
-            Suite("library tests", ["tests/library/run"], 235),
-            Suite("tests of tools/openvdb", ["tools/openvdb/test"], 1),
-            Suite("fault injection", ["fault_injection/run"], 100_000),
-            Suite("planted faults", ["fault_injection/planted.py", "some"], 10),
-            Suite("fuzzing", [python, "fuzz/run"], 4_000),
-            Suite("planted bugs", [python, "tests/bugs", "--ci"], 10),
-            Suite("rows", ["tests/rows.py"], 240),
+            Suite("edits", ["nice", "-n", "10", "tests/edits/run", "--ci"], 28),
+            Suite("library tests", ["tests/library/run"], 265),
+            Suite("tests of tools/openvdb", ["tests/openvdb/run"], 1),
+            Suite("fault injection", ["tests/faults/run"], 100_000),
+            Suite("fuzzing", [python, "tests/fuzz/run"], 4_000),
+            Suite("planted bugs", [python, "tests/bugs/run", "--ci"], 40),
+            Suite("rows", ["tests/rows/rows.py"], 240),
             Suite("public calls", ["tests/called.py"], 300),
-            Suite("limits", ["tests/limits.py"], 20),
-            Suite("tests of rows and of the model", unittest("discover", "-s", "tests"), 12),
-            Suite("tests of tools/vdb-run", unittest("tools/test_vdb_run.py"), 23),
-            Suite("tests of libvdb", unittest("tools/test_libvdb.py"), 28),
-            Suite("tests of limits through C", unittest("tools/test_limits.py"), 11),
-            Suite("tests of tools/install", unittest("tools/test_install.py"), 25),
+            Suite("limits", ["tests/rows/limits.py"], 20),
+            Suite("tests of rows and of the model", unittest("discover", "-s", "tests/rows"), 11),
+            Suite("tests of tools/vdb-run", unittest("tests/tools/test_vdb_run.py"), 23),
+            Suite("tests of libvdb", unittest("tests/c/test_libvdb.py"), 28),
+            Suite("tests of limits through C", unittest("tests/c/test_limits.py"), 11),
+            Suite("tests of tools/install", unittest("tests/tools/test_install.py"), 25),
             Suite("tests of the Python packages", ["tests/reached.py", "python"], 203),
         ],
         [
-            Suite("I/O faults", ["fault_injection/run", *IO_FAULTS], 10_000),
-            Suite("tests of saving", unittest("tools/test_files.py"), 12),
-            Suite("documents", [python, ".ci/documents.py"], 1),
+            Suite("I/O faults", ["tests/faults/run", *IO_FAULTS], 10_000),
+            Suite("tests of saving", unittest("tests/tools/test_files.py"), 12),
+            Suite("documents", [python, "tests/documents/documents.py"], 1),
         ],
     ]
 
@@ -174,7 +184,8 @@ def close(results, begun, is_whole):
     both = [resource.getrusage(it) for it in (resource.RUSAGE_CHILDREN, resource.RUSAGE_SELF)]
     lines.append(f"{(time.time() - begun) / 60:.1f} minutes, {sum(it.ru_utime + it.ru_stime for it in both):,.0f} processor seconds")
     failed = sum(it.failed for it in results)
-    lines.append(f"{sum(it.passed for it in results)} passed, {failed} failed, {sum(it.skipped for it in results)} skipped")
+    skipped = sum(it.skipped for it in results)
+    lines.append(f"{sum(it.passed for it in results)} passed, {failed} failed" + (f", {skipped} skipped" if skipped else ""))
     if is_whole:
         head = subprocess.run(["git", "rev-parse", "HEAD"], cwd=TOP, capture_output=True, text=True).stdout.strip()
         sums = subprocess.run(["sha256sum", *BUILT], cwd=TOP, capture_output=True, text=True).stdout.splitlines()
@@ -187,18 +198,19 @@ def close(results, begun, is_whole):
 
 def main():
     options = sys.argv[1:]
-    unknown = [it for it in options if it not in ("--anew", "--proofs")]
+    unknown = [it for it in options if it not in ("--anew", "--proofs", "--quick")]
     if unknown:
         print(__doc__.strip())
         return 0 if unknown == ["--help"] else 2
     begun, results = time.time(), []
     signal.signal(signal.SIGINT, signal.default_int_handler)  # tests of Ctrl-C need it, and a shell's background commands ignore it
-    install()
-    is_whole = "--proofs" not in options
+    if "--quick" not in options:
+        install()
+    is_whole = not {"--proofs", "--quick"} & {*options}
     quiet = {"stdin": subprocess.DEVNULL, "stdout": subprocess.DEVNULL, "stderr": subprocess.DEVNULL}
     early = subprocess.Popen(["nice", "-n", "19", "sh", "-c", EARLY if is_whole else ""], cwd=TOP, **quiet)  # the tests report what fails
     for stage in stages(options):
-        if not is_whole and stage[0].name != "proofs":
+        if "--proofs" in options and stage[0].name != "proofs":
             continue
         if len(stage) > 1:
             early.wait()

@@ -14,7 +14,7 @@ from pathlib import Path
 
 TOP = Path(__file__).resolve().parent.parent
 CRATES = TOP / "crates"
-sys.path.insert(0, str(TOP / "tests"))
+sys.path.insert(0, str(TOP / "tests" / "rows"))
 import rows  # noqa: E402
 
 STATIC = "vdb_c"
@@ -105,8 +105,8 @@ def reached(calls, begin, without=""):
 
 
 def tests():
-    """Returns the texts of the library tests and of the proved ones by their names."""
-    files = [*(TOP / "tests" / "library").rglob("*.txt"), *CRATES.glob("*_tests/src/**/*.rt"), *CRATES.glob("library_*/src/**/*.rt")]
+    """Returns the texts of the library tests and of the proved programs over the libraries by their names."""
+    files = [*(TOP / "tests" / "library").rglob("*.txt"), *CRATES.glob("library_*/src/**/*.rt")]
     return {str(it.relative_to(TOP).with_suffix("")): it.read_text(encoding="utf-8") for it in sorted(files)}
 
 
@@ -127,7 +127,7 @@ def main():
     calls, names = graph(lists), {name for functions in lists.values() for name, _ in functions}
     if not lists:
         sys.exit("called.py: there are no lists of calls: build the crates by .ci/run --proofs, with a kit that keeps them")
-    public_of = {compiled_name(names, crate, *it): (crate, *it) for crate in lists if not crate.endswith("_tests") for it in public(crate)}
+    public_of = {compiled_name(names, crate, *it): (crate, *it) for crate in lists for it in public(crate)}
     main_text = (CRATES / "vdb" / "src" / "main.rt").read_text(encoding="utf-8")
     session = reached(calls, called_in(main_text, public_of), STEP)
     scene = next(it for it in names if it.endswith(STEP)).rpartition("::")[0]

@@ -47,7 +47,7 @@ def of_python():
         settings.write_text(SETTINGS.format(top=TOP, folder=folder), encoding="utf-8")
         Path(folder, "sitecustomize.py").write_text(START, encoding="utf-8")
         environment = {**os.environ, "COVERAGE_PROCESS_START": str(settings), "PYTHONPATH": folder, "PYTHONDONTWRITEBYTECODE": "1"}
-        tests = subprocess.run([python, "-m", "unittest", "discover", "-s", "python/tests", "-t", "python", "-v"], cwd=TOP, env=environment)
+        tests = subprocess.run([python, "-m", "unittest", "discover", "-s", "tests/python", "-t", "tests", "-v"], cwd=TOP, env=environment)
         measure = [python, "-m", "coverage"]
         subprocess.run([*measure, "combine", "-q", "--rcfile", settings, folder], cwd=folder, check=True, stdout=subprocess.DEVNULL)
         subprocess.run([*measure, "json", "-q", "--rcfile", settings, "-o", "found.json"], cwd=folder, check=True)

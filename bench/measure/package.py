@@ -1,11 +1,11 @@
 # SPDX-License-Identifier: Apache-2.0
 """Measures the Python package: package.py RUNS SIDE FOLDER. It is run by an interpreter that has NumPy, and prints tables of rows as JSON.
 
-Arrays of SIDE x SIDE x SIDE int32 labels are made grids, saved to the folder, loaded and made arrays again, beside numpy.save and numpy.load with
-a copy: spheres of labels, and single voxels at random, as many as fit into a file. The same labels are reported and selected, beside a walk over
-leaves. Cubes of SIDE / 4 without background go into grids, beside a call of the C library. Booleans of the spheres go through OpenVDB's package for
-Python, if it is there. A sparse scene of 10 million voxels is loaded by the package and by `vdb --load`. With a SIDE of 512 it takes about 4 GB of
-memory.
+Arrays of SIDE x SIDE x SIDE int32 labels are made grids, also from column order, saved to the folder, loaded and made arrays again, beside
+numpy.save and numpy.load with a copy: spheres of labels, and single voxels at random, as many as fit into a file. The same labels are reported and
+selected, beside a walk over leaves. Cubes of SIDE / 4 without background go into grids, beside a call of the C library. Booleans of the spheres go
+through OpenVDB's package for Python, if it is there. A sparse scene of 10 million voxels is loaded by the package and by `vdb --load`. With a SIDE
+of 512 it takes about 5 GB of memory.
 """
 import collections
 import json
@@ -69,6 +69,10 @@ def box_of(array):
 def arrays(package, folder, what, labels, runs):
     """Returns the rows of an array: out to a file, and in from it; and those of the grid alone."""
     dense, scene_file, made, found = f"{folder}/a.npy", f"{folder}/a.vdbs", None, None
+    columns = np.asfortranarray(labels)  # as files of images have them
+
+    def columns_to_grid():
+        package.Grid.from_array(columns)
 
     def to_grid():
         nonlocal made
@@ -94,6 +98,7 @@ def arrays(package, folder, what, labels, runs):
 
     series = {"to a file": measured((save, numpy_save), runs), "from a file": measured((load, numpy_load), runs)}
     series["to a grid"], series["from a grid"] = measured((to_grid, numpy_save), runs), measured((to_array, numpy_load), runs)
+    series["to a grid from column order"] = measured((columns_to_grid, numpy_save), runs)
     if not ((found[0] == labels).all() and (found[1] == (labels != 0)).all()):
         sys.exit(f"package.py: the array of {what} isn't the one that was saved")
     more = {"Active": f"{100 * np.count_nonzero(labels) / labels.size:.0f} %", "File": f"{os.path.getsize(scene_file) / 1e6:.0f} MB"}

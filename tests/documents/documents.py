@@ -1,0 +1,174 @@
+#!/usr/bin/env python3
+# SPDX-License-Identifier: Apache-2.0
+"""Checks the documents: documents.py [--write]
+
+It reports and exits with status 1 if
+
+- a relative link of a Markdown file names no file or no heading,
+- a sentence outside tables and code has more than 30 words,
+- the example in docs/LIBRARY.md differs from `fill_and_count` of library_examples, which CI proves,
+- `vdb --version` or README.md has another version than VERSION,
+- the tables of docs/PROOFS.md differ from those of definitions.py; --write renews them,
+- a number in a document differs from its source: of commands, crates, edits, checks, definitions, limits, minutes of CI,
+- docs/TESTING.md tells another least number of results of a suite than CI asks for.
+"""
+import os
+import re
+import subprocess
+import sys
+
+from definitions import TOP, edits_of, tables, text
+from crates import lowest_first
+
+WORDS = 30
+LINK = re.compile(r"\]\(([^)\s]+)\)")
+ITEM = re.compile(r"^\s*(?:[-*]|\d+\.)\s")
+END = re.compile(r"(?<=[.!?])[\"')*_`]*\s+")
+
+
+def documents():
+    """The Markdown files of the repository that git knows or that are new."""
+    found = subprocess.run(
+        ["git", "ls-files", "--cached", "--others", "--exclude-standard", "*.md"], cwd=TOP, check=True, stdout=subprocess.PIPE, text=True
+    ).stdout.split()
+    return sorted(name for name in found if os.path.exists(f"{TOP}/{name}"))
+
+
+def prose(document):
+    """The document without code, in which a link could be anything."""
+    fenced = re.sub(r"(?ms)^```.*?^```$", "", document)
+    return "\n".join("" if line.startswith("    ") and not ITEM.match(line) else line for line in fenced.split("\n"))
+
+
+def anchors(name):
+    """The anchors of a document's headings, as code forges make them."""
+    made = set()
+    for title in re.findall(r"(?m)^#+ (.*)$", prose(text(name))):
+        plain = re.sub(r"\[([^\]]*)\]\([^)]*\)", r"\1", title).replace("`", "").lower()
+        made.add(re.sub(r"[^\w\- ]", "", plain).replace(" ", "-"))
+    return made
+
+
+def broken_links(name):
+    """Yields the relative links of a document that lead nowhere."""
+    for target in LINK.findall(re.sub(r"`[^`\n]*`", "", prose(text(name)))):
+        if re.match(r"[a-z]+:", target):
+            continue
+        path, _, anchor = target.partition("#")
+        there = os.path.normpath(os.path.join(os.path.dirname(name), path)) if path else name
+        if not os.path.exists(f"{TOP}/{there}"):
+            yield f"{name}: the link {target} names no file"
+        elif anchor and anchor not in anchors(there):
+            yield f"{name}: the link {target} names no heading"
+
+
+def long_sentences(name):
+    """Yields the sentences of a document with too many words."""
+    part = []
+    for line in [*prose(text(name)).split("\n"), ""]:
+        starts = not line.strip() or ITEM.match(line) or line.startswith(("|", "#"))
+        if starts and part:
+            for sentence in END.split(" ".join(part)):
+                count = len(sentence.split())
+                if count > WORDS:
+                    yield f"{name}: a sentence of {count} words: {' '.join(sentence.split()[:10])} .."
+            part = []
+        if line.strip() and not line.startswith(("|", "#")):
+            part.append(ITEM.sub("", line))
+
+
+# for each limit a word of its row in README's table, and where it is defined
+LIMITS = [
+    ("script", "vdb_script/src/source.rt", r"SCRIPT_LIMIT: usize = ([\d_]+)"),
+    ("scene file", "vdb_file/specs/Spelling.antt", r"file_limit = (\d+)"),
+    ("line", "vdb_script/src/line_text.rt", r"LINE_LIMIT: usize = (\d+)"),
+    ("grids", "vdb_scene/specs/Refusals.antt", r"nat_le (\d+) \(length s\)"),
+    ("grids", "vdb_scene/specs/Metas.antt", r"nat_lt \(length pairs\) (\d+)"),
+    ("list", "vdb_scene/specs/Arguments.antt", r"is_limit n = .*\(pos (\d+)\)"),
+    ("slice", "vdb_scene/specs/Step.antt", r"too_wide (\d+)"),
+    ("voxelise", "vdb_scene/specs/Step.antt", r"too_large (\d+)"),
+    ("iterations", "vdb_scene/specs/Arguments.antt", r"is_iteration_count n = .*\(pos (\d+)\)"),
+    ("cubes", "vdb_scene/specs/Arguments.antt", r"is_root_limit \(Some n\) = .*\(pos (\d+)\)"),
+    ("cubes", "vdb_scene/specs/Arguments.antt", r"root_limit_of None = (\d+)"),
+]
+
+
+def wrong_limits():
+    """Yields the limits that the table in README.md lacks."""
+    for row, file, pattern in LIMITS:
+        limit = int(re.search(pattern, text(f"crates/{file}"))[1])
+        digits = f"{limit >> 20} MiB" if limit >= 2**24 else f"{limit:,}"
+        if not re.search(rf"\| [^|\n]*{row}[^|\n]*\|[^|\n]*(?<![\d,]){digits}(?!,?\d)", text("README.md")):
+            yield f"README.md: no limit {digits} in a row of {row}"
+
+
+def counts(sums):
+    """What documents count: a pattern of each count, or of its least and its greatest number, and the number."""
+    commands = re.search(r"pub enum Command \{(.*?)\n\}", text("crates/vdb_scene/src/command.rt"), re.S)[1]
+    run = re.search(r"^([\d.]+) minutes.*\n(\d+) passed", text(".ci/times"), re.M) if os.path.exists(f"{TOP}/.ci/times") else None
+    return [
+        (r"(twenty-\w+|\d\d) commands", len(re.findall(r"^    [A-Z]", commands, re.M))),
+        (r"(\d+) crates", len(re.findall(r"^\w", text("crates.txt"), re.M))),
+        (r"(\d+) must-fail edits", sum(map(edits_of, lowest_first(TOP)))),
+        (r"(\d+) wrong\s+engines", len(re.findall(r"^\w\S+ +\S", text("tests/edits/wrong-bodies.txt"), re.M))),
+        (r"([\d,]+) lines of definitions", sums[1]),
+        (r"definitions, in files of ([\d,]+)", sums[0]),
+        *([(r"took (\d+)\s+minutes on", round(float(run[1]))), (r"([\d,]+) checks", int(run[2]))] if run else []),
+    ]
+
+
+def untold_suites():
+    """Yields the suites of CI whose least number of results docs/TESTING.md doesn't tell."""
+    for name, least in re.findall(r'Suite\("(.*?)", .*?, ([\d_]+)\),', text(".ci/suites.py")):
+        if not re.search(rf"[|,] {re.escape(name)}: {int(least):,}(?![\d,]*\d)", text("docs/TESTING.md")):
+            yield f"docs/TESTING.md: not '{name}: {int(least):,}'"
+
+
+def wrong_counts(name, expected):
+    """Yields the counts of a document that are wrong."""
+    tens = ["twenty", *(f"twenty-{it}" for it in "one two three four five six seven eight nine".split())]
+    for pattern, count in expected if name != "CHANGELOG.md" else ():
+        for found in re.finditer(pattern, text(name)):
+            numbers = [tens.index(it) + 20 if it in tens else int(it.replace(",", "")) for it in found.groups()]
+            if not numbers[0] <= count <= numbers[-1]:
+                yield f"{name}: '{found[0]}', where {count:,} are counted"
+
+
+def stale_numbers():
+    """Yields the numbers and copies that are out of date."""
+    program, readme = text("crates/library_examples/src/main.rt"), text("README.md")
+    function = re.search(r"(?ms)^fn fill_and_count.*?^}\n", program)[0]
+    if "".join(f"    {line}" for line in function.splitlines(True)) not in text("docs/LIBRARY.md"):
+        yield "docs/LIBRARY.md: another example than `fill_and_count` of library_examples"
+    command_line, version = "crates/vdb_shell/src/command_line.rt", text("VERSION").strip()
+    if re.findall(r'\.version\("(.*)"\)', text(command_line)) != [version]:
+        yield f"{command_line}: another version than {version}"
+    if f"Version {version}." not in readme:
+        yield f"README.md: not version {version}"
+
+
+def renewed(document, made):
+    """The document with its tables as they are made."""
+    for table in made:
+        document = re.sub(rf"(?m)^{re.escape(table.split(chr(10))[0])}(?:\n\|.*)*", lambda _, it=table: it, document)
+    return document
+
+
+def main():
+    made, sums = tables()
+    proofs, names = renewed(text("docs/PROOFS.md"), made), documents()
+    if sys.argv[1:] == ["--write"]:
+        with open(f"{TOP}/docs/PROOFS.md", "w", encoding="utf-8") as file:
+            file.write(proofs)
+    found = [*stale_numbers(), *wrong_limits(), *untold_suites()]
+    if proofs != text("docs/PROOFS.md"):
+        found.append("docs/PROOFS.md: the tables are out of date; tests/documents/documents.py --write renews them")
+    expected = counts(sums)
+    for name in names:
+        found += [*broken_links(name), *long_sentences(name), *wrong_counts(name, expected)]
+    print("\n".join(found), end="\n" * bool(found))
+    sys.exit(bool(found))
+
+
+if __name__ == "__main__":
+    main()

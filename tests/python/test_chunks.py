@@ -1,0 +1,385 @@
+# SPDX-License-Identifier: Apache-2.0
+"""Volumes in chunks, on threads and on processes of dask, against one grid."""
+import contextlib
+import io
+import json
+import logging
+import os
+import signal
+import subprocess
+import sys
+import tempfile
+import threading
+import time
+import unittest
+import warnings
+from itertools import product
+from pathlib import Path
+from unittest import mock
+
+from .support import TOP, library_missing, np, rows, vdb
+
+if library_missing():
+    raise unittest.SkipTest(library_missing())
+try:
+    import dask
+    import distributed
+    import zarr
+    from dask import array as dask_array
+    from dask.diagnostics import ProgressBar
+    from hypothesis import given, settings
+    from hypothesis import strategies as some
+    from vdb import chunks
+except ImportError as error:
+    raise unittest.SkipTest(f"{error}: Debian has dask, distributed, zarr and hypothesis as python3-dask and so on") from error
+
+quickly = settings(max_examples=8, deadline=None, derandomize=True, database=None)
+LEAST, MOST = -(2**31), 2**31 - 1
+seed = some.integers(0, 10**6)
+side = some.sampled_from([8, 16, 24, 40])
+low = some.tuples(*[some.one_of(some.integers(-50, 50), some.integers(-4100, -4090))] * 3)
+shape = some.tuples(*[some.integers(1, 28)] * 3)
+cut = side.flatmap(lambda length: some.tuples(some.just(length), some.tuples(*[some.integers(1, min(28, length + 4))] * 3)))
+density = some.sampled_from([0.002, 0.1, 0.6, 1])
+
+
+def labels_of(seed, shape, density, dtype=np.int32):
+    """Labels 1 to 3, or True, in this part of the voxels, and a box of one label."""
+    dice = np.random.default_rng(seed)
+    values = np.where(dice.random(shape) < density, dice.integers(1, 4, shape), 0).astype(dtype)
+    first = [int(dice.integers(0, length)) for length in shape]
+    values[tuple(slice(at, at + 12) for at in first)] = 2
+    return values
+
+
+class Case(unittest.TestCase):
+    """A folder, in which files are not put on the disk, and comparisons with one grid."""
+
+    def setUp(self):
+        holder = tempfile.TemporaryDirectory()
+        self.addCleanup(holder.cleanup)
+        self.folder = Path(holder.name)
+        quick = mock.patch("os.fsync")
+        quick.start()
+        self.addCleanup(quick.stop)
+
+    def written(self, values, name="a", **more):
+        return chunks.from_array(values, self.folder / name, **more)
+
+    def same(self, volume, grid, halo=2):
+        """The volume has the cells of the grid, in the box of both and around it, and its folder the files that the index names."""
+        self.assertEqual((volume.kind, volume.background), (grid.kind, grid.background))
+        self.assertEqual((volume.count, volume.bounds), (grid.count, grid.bounds))
+        self.assertEqual(rows(volume.labels()), rows(grid.labels()))
+        lows, highs = grid.bounds or ((0, 0, 0), (0, 0, 0))
+        box = [[max(at - halo, LEAST) for at in lows], [min(at + halo, MOST) for at in highs]]
+        with dask.config.set(scheduler="sync"):
+            found = dask.compute(*volume.to_array(box))
+        for one, other in zip(found, grid.to_array(box)):
+            self.assertEqual((one.dtype, one.shape), (other.dtype, other.shape))
+            np.testing.assert_array_equal(one, other)
+        index = json.loads(Path(volume.folder, "chunks.json").read_text())
+        names = ["{}_{}_{}.vdbs".format(*number) for number, _, _ in index["chunks"]]
+        self.assertEqual(sorted(os.listdir(volume.folder)), sorted([index["folder"], "chunks.json"]))
+        self.assertEqual(sorted(os.listdir(Path(volume.folder, index["folder"]))), sorted(names))
+
+
+class Threads(Case):
+    @quickly
+    @given(seed, cut, low, density, some.integers(1, 16), some.sampled_from([0, 2, -1]))
+    def test_dilations_and_erosions(self, seed, cut, low, density, iterations, background):
+        side, shape = cut
+        values = labels_of(seed, shape, density)
+        grid = vdb.Grid.from_array(values, origin=low, background=background)
+        volume = self.written(values, side=side, origin=low, background=background)
+        self.same(volume, grid)
+        for name, arguments in (("dilate", (iterations,)), ("dilate_label", (2, iterations)), ("erode", (min(iterations, 3),))):
+            getattr(grid, name)(*arguments)
+            volume = getattr(volume, name)(*arguments, self.folder / "a")
+            self.same(volume, grid)
+
+    @quickly
+    @given(seed, cut, low, density, shape, some.sampled_from([np.int64, np.uint8]))
+    def test_choices(self, seed, cut, low, density, blocks, dtype):
+        side, shape = cut
+        values = labels_of(seed, shape, density, dtype)
+        grid = vdb.Grid.from_array(values, origin=low)
+        volume = self.written(dask_array.from_array(values, chunks=blocks), side=side, origin=low)
+        for wanted in (2, [1, 3], []):
+            self.same(volume.select(wanted, self.folder / "b"), grid.select(wanted))
+        for pairs in ({2: 0}, {1: 2, 2: 1}, {9: 1}):
+            self.same(volume.relabel(pairs, self.folder / "b"), grid.relabel(pairs))
+        self.assertEqual(rows(volume.labels()), rows(grid.labels()))
+
+    @quickly
+    @given(seed, cut, cut, some.tuples(*[some.integers(-30, 30)] * 3), density)
+    def test_two_volumes(self, seed, cut, second_cut, low, density):
+        (side, shape), (second_side, second_shape) = cut, second_cut
+        values, mask = labels_of(seed, shape, density), labels_of(seed + 1, second_shape, density, np.bool_)
+        volume, other = self.written(values, side=side), self.written(mask, "b", side=second_side, origin=low)
+        for name in ("unite", "subtract", "intersect"):
+            for first, second, grids in ((volume, other, (values, mask)), (other, volume, (mask, values))):
+                grid, another = [vdb.Grid.from_array(it, origin=low if it is mask else (0, 0, 0)) for it in grids]
+                getattr(grid, name)(another)
+                self.same(getattr(first, name)(second, self.folder / "c"), grid)
+
+    def test_every_offset(self):
+        """A random volume with a box of one label, cut at every offset."""
+        for side in (8, 16, 24):
+            for offset in range(side):
+                values, low = labels_of(100 * side + offset, (14, 11, 9), 0.1), (offset, -offset, offset - side)
+                with self.subTest(side=side, offset=offset):
+                    grid, volume = vdb.Grid.from_array(values, origin=low), self.written(values, side=side, origin=low)
+                    for name, iterations in (("dilate", 2), ("erode", 3)):
+                        getattr(grid, name)(iterations)
+                        volume = getattr(volume, name)(iterations, volume.folder)
+                        self.same(volume, grid)
+
+    def test_corners(self):
+        """Chunks at the ends of the coordinates, some of which would reach past them."""
+        values = np.ones((5, 9, 10), np.int32)
+        for corner, side in zip(product((LEAST, MOST), repeat=3), [8, 24, 40, 16] * 2):
+            low = [at if at < 0 else at - length + 1 for at, length in zip(corner, values.shape)]
+            with self.subTest(corner=corner, side=side):
+                grid, volume = vdb.Grid.from_array(values, origin=low), self.written(values, side=side, origin=low)
+                self.same(volume, grid)
+                grid.erode(2)
+                self.same(volume.erode(2, self.folder / "b"), grid)
+                grid.dilate(3)
+                self.same(chunks.Chunks(self.folder / "b").dilate(3, self.folder / "b"), grid)
+
+    def test_sources(self):
+        values = labels_of(1, (30, 20, 10), 0.1)
+        grid = vdb.Grid.from_array(values, origin=(-7, 3, 0))
+        path = str(self.folder / "z")
+        zarr.save_array(path, values, chunks=(7, 20, 4))
+        for source in (path, Path(path), zarr.open_array(path), dask_array.from_zarr(path), values, values.T.copy().T):
+            self.same(self.written(source, side=16, origin=(-7, 3, 0)), grid)
+        for empty in (np.zeros((0, 3, 3), np.int32), np.zeros((9, 9, 9), np.int32)):
+            self.same(self.written(empty, side=8), vdb.Grid("i32"))
+        values[[0, -1]] = 1
+        found, states = self.written(values, side=16).to_array(fill=-1)
+        np.testing.assert_array_equal(found, np.where(values, values, -1))
+        self.assertEqual((found.dtype, states.dtype), (np.int32, np.bool_))
+        self.assertEqual([it.shape for it in self.written(empty).to_array()], [(0, 0, 0)] * 2)
+
+
+class Images(Case):
+    PAIRS = {"affine_x": "0.5,0,0,1", "affine_y": "0,2,0,0", "affine_z": "0,0,1,0", "image_array": "int32,30,20,10", "image_units": "mm"}
+
+    def volume(self, name, **changes):
+        return self.written(labels_of(1, (30, 20, 10), 0.1), name, side=16, metadata={**self.PAIRS, "own": "x", **changes})
+
+    def test_every_volume_that_is_made_of_another_one(self):
+        volume, other = self.volume("a"), self.written(labels_of(2, (30, 20, 10), 0.1), "b", side=8)
+        self.assertEqual(dict(chunks.Chunks(self.folder / "a").metadata), {**self.PAIRS, "own": "x"})
+        place = self.folder / "c"
+        for made in (
+            volume.relabel({1: 2}, place), volume.dilate(1, place), volume.erode(1, place), volume.dilate_label(1, 1, place),
+            volume.unite(other, place), volume.subtract(other, place), volume.intersect(other, place),
+        ):  # fmt: skip
+            self.assertEqual(dict(made.metadata), {**self.PAIRS, "own": "x"})
+        self.assertEqual(dict(volume.select(1, place).metadata), {**self.PAIRS, "image_array": "bool,30,20,10"})
+        self.assertEqual(dict(other.unite(volume, place).metadata), self.PAIRS)
+        made.metadata["more"] = "y"  # a copy
+        self.assertEqual(dict(other.metadata), {})
+
+    def test_different_images(self):
+        volume, other, place = self.volume("a"), self.volume("b", affine_x="0.6,0,0,1"), self.folder / "c"
+        for call in (volume.unite, volume.subtract, volume.intersect):
+            with self.assertRaisesRegex(vdb.GeometryError, "the affine"):
+                call(other, place)
+            self.assertFalse(place.exists())
+        self.assertEqual(volume.unite(other, place, ignore_geometry=True).metadata["affine_x"], "0.5,0,0,1")
+
+    def test_an_index_without_metadata(self):
+        self.volume("a")
+        path = self.folder / "a" / "chunks.json"
+        index = json.loads(path.read_bytes())
+        del index["metadata"]
+        path.write_text(json.dumps(index))
+        self.assertEqual(dict(chunks.Chunks(self.folder / "a").metadata), {})
+        path.write_text(json.dumps({**index, "metadata": {"A": "x"}}))
+        with self.assertRaises(chunks.ChunksFault):
+            chunks.Chunks(self.folder / "a")
+
+    def ome(self, values, axes, **more):
+        """An image of OME-Zarr 0.4, with two levels. Returns its path."""
+        group = zarr.open_group(str(self.folder / "ome.zarr"), "w")
+        group.create_dataset("full", data=values)
+        group.create_dataset("half", data=values[..., ::2])
+        group.attrs["multiscales"] = [{"version": "0.4", "axes": axes, "datasets": [{"path": "full", **more}, {"path": "half"}]}]
+        return self.folder / "ome.zarr"
+
+    def test_images_of_ome_zarr(self):
+        values = labels_of(1, (30, 20, 10), 0.1, np.uint16)
+        axes = [{"name": "t"}, {"name": "c"}, *({"name": name, "type": "space", "unit": "micrometer"} for name in "zyx")]
+        scales = [{"type": "scale", "scale": [1, 1, 2.5, 0.5, 0.25]}, {"type": "translation", "translation": [0, 0, 7, 8, 9]}]
+        path = self.ome(values.T[None, None], axes, coordinateTransformations=scales)
+        volume = self.written(path, origin=(-4, 0, 1), side=16)
+        self.same(volume, vdb.Grid.from_array(values, origin=(-4, 0, 1)))
+        self.assertEqual(dict(volume.metadata), {
+            "affine_x": "0.25,0,0,10", "affine_y": "0,0.5,0,8", "affine_z": "0,0,2.5,4.5", "image_array": "uint16,30,20,10", "image_low": "-4,0,1",
+            "image_units": "um",
+        })  # fmt: skip
+        self.same(self.written(self.ome(values[None, :, None], list("tzcyx"))), vdb.Grid.from_array(values.T))
+
+    def test_stores_that_are_no_image(self):
+        with self.assertRaisesRegex(vdb.MissingFileError, "none.zarr: No such file"):
+            self.written(self.folder / "none.zarr")
+        with self.assertRaisesRegex(vdb.VolumeError, f"{self.folder}: no image of zarr: PathNotFoundError"):
+            self.written(self.folder)
+        zarr.open_group(str(self.folder / "group"), "w").create_dataset("one", data=np.zeros((3, 3, 3)))
+        with self.assertRaisesRegex(vdb.VolumeError, "group: no image of zarr: .*name one of its arrays, which are one"):
+            self.written(self.folder / "group")
+        for values, axes in ((np.zeros((2, 3, 3, 3)), list("tzyx")), (np.zeros((3, 3)), list("yx")), (np.zeros((3, 3, 3)), list("tzyx"))):
+            with self.subTest(axes), self.assertRaisesRegex(vdb.VolumeError, f"an array with the axes {''.join(axes)} of the shape"):
+                self.written(self.ome(values, axes))
+        self.assertFalse((self.folder / "a").exists())
+
+
+class Folders(Case):
+    def setUp(self):
+        super().setUp()
+        self.values = labels_of(3, (20, 20, 20), 0.3)
+        self.grid, self.volume = vdb.Grid.from_array(self.values), self.written(self.values, side=8)
+
+    def test_wrong_arguments_write_nothing(self):
+        for name, arguments, error in (
+            ("select", (1.5,), vdb.DtypeError), ("relabel", ({1: 2**31},), vdb.RangeError), ("dilate", (17,), vdb.RangeError),
+            ("erode", (0,), vdb.RangeError), ("dilate_label", ("a", 1), vdb.DtypeError), ("dilate", ("1",), vdb.DtypeError),
+        ):  # fmt: skip
+            with self.subTest(name=name), self.assertRaises(error):
+                getattr(self.volume, name)(*arguments, self.folder / "b")
+        for values, more, error in (
+            (self.values, {"side": 12}, vdb.RangeError), (self.values, {"side": 0}, vdb.RangeError),
+            (self.values, {"side": "8"}, vdb.DtypeError), (self.values * 1.5, {}, vdb.DtypeError), (self.values[0], {}, vdb.RangeError),
+            (self.values, {"origin": (MOST, 0, 0)}, vdb.RangeError), (self.values, {"background": 2**31}, vdb.RangeError),
+        ):  # fmt: skip
+            with self.subTest(more=more), self.assertRaises(error):
+                self.written(values, "b", **more)
+        self.assertFalse((self.folder / "b").exists())
+        self.same(self.volume, self.grid)
+
+    def test_after_an_error_the_old_volume_stays(self):
+        broken = self.written(self.values, "b", side=8)
+        path = next(Path(broken.folder).glob("*/1_1_1.vdbs"))
+        path.write_bytes(path.read_bytes()[:-1])
+        for target in ("a", "b", "c"):
+            with self.assertRaises(vdb.TruncatedFault):
+                broken.dilate(1, self.folder / target)
+        self.same(self.volume, self.grid)
+        self.assertEqual(len(os.listdir(broken.folder)), 2)
+        self.assertEqual(os.listdir(self.folder / "c"), [])
+        path.unlink()
+        with self.assertRaisesRegex(vdb.MissingFileError, str(path)):
+            broken.labels()
+
+    def test_what_a_program_left_is_removed(self):
+        """A program that died left a folder of files, and a worker a temporary file. Files of others stay."""
+        left = Path(self.volume.folder, "0123456789abcdef")
+        left.mkdir()
+        (left / "0_0_0.vdbs").write_bytes(b"left")
+        self.same(chunks.Chunks(self.volume.folder).select(2, self.folder / "b"), self.grid.select(2))
+        other = Path(self.volume.folder, "notes.txt")
+        other.write_text("of others")
+        again = self.volume.relabel({1: 5}, self.volume.folder)
+        self.assertFalse(left.exists())
+        other.unlink()
+        self.same(again, self.grid.relabel({1: 5}))
+
+    def test_indices_with_faults(self):
+        path = Path(self.volume.folder, "chunks.json")
+        index = json.loads(path.read_text())
+        for part, wrong in (
+            ("version", 2), ("kind", "f32"), ("kind", []), ("background", True), ("background", 2**31), ("side", 12), ("side", None),
+            ("folder", "../b"), ("folder", index["folder"] + "/"), ("chunks", None), ("chunks", [[0, 0, 0]]),
+            ("chunks", [[[0, 0], 1, None]]), ("chunks", [[[0, 0, 0], "many", None]]), ("chunks", [[[0, 0, 0], 1, [[1, 0, 0], [0, 0, 0]]]]),
+        ):  # fmt: skip
+            path.write_text(json.dumps({**index, part: wrong}))
+            with self.subTest(part=part, wrong=wrong), self.assertRaisesRegex(chunks.ChunksFault, f"{path}: chunks: "):
+                chunks.Chunks(self.volume.folder)
+        for data in (b"", b"{", b"[]", b"3", b"\xff", b"{}"):
+            path.write_bytes(data)
+            with self.assertRaises(vdb.FormatError):
+                chunks.Chunks(self.volume.folder)
+        path.unlink()
+        with self.assertRaises(vdb.MissingFileError):
+            chunks.Chunks(self.volume.folder)
+
+    def test_without_dask(self):
+        text = (
+            "import sys\nimport vdb\nassert 'dask' not in sys.modules\nsys.modules['dask'] = None\n"
+            "try:\n    import vdb.chunks\nexcept ImportError as error:\n    print(error)\n"
+        )
+        environment = {**os.environ, "PYTHONPATH": str(TOP / "python")}
+        ran = subprocess.run([sys.executable, "-c", text], env=environment, capture_output=True, text=True, timeout=60)
+        self.assertRegex(ran.stdout, "python3-dask.*python3-distributed.*python3-zarr")
+        with mock.patch.dict(sys.modules, {"zarr": None}), self.assertRaisesRegex(ImportError, "python3-zarr"):
+            self.written("z", "b")
+
+    def test_memory(self):
+        """A volume of 4 GiB as an array passes through 2 GiB of addresses. The program fails if its result isn't what it computes."""
+        words = [sys.executable, str(Path(__file__).with_name("chunks_memory.py")), "1024", "2"]
+        environment = {**os.environ, "PYTHONPATH": str(TOP / "python")}
+        ran = subprocess.run(words, env=environment, capture_output=True, text=True, timeout=300)
+        self.assertEqual((ran.returncode, ran.stderr), (0, ""), ran.stdout)
+        self.assertRegex(ran.stdout, r"1024\^3 voxels")
+
+
+class Processes(Case):
+    """Two worker processes, each of which a nanny starts again."""
+
+    @classmethod
+    def setUpClass(cls):
+        holder = tempfile.TemporaryDirectory()
+        cls.addClassCleanup(holder.cleanup)
+        how = {"threads_per_worker": 1, "dashboard_address": None, "silence_logs": logging.CRITICAL, "local_directory": holder.name}
+        with warnings.catch_warnings():
+            warnings.simplefilter("ignore")  # of libraries below
+            cls.client = distributed.Client(distributed.LocalCluster(2, **how))
+        cls.addClassCleanup(cls.client.cluster.close)
+        cls.addClassCleanup(cls.client.close)
+
+    def setUp(self):
+        super().setUp()
+        self.values = labels_of(5, (40, 40, 40), 0.05)
+        self.grid = vdb.Grid.from_array(self.values, origin=(-20, -3, 5))
+
+    def test_calls(self):
+        printed = io.StringIO()
+        with ProgressBar(), contextlib.redirect_stdout(printed):
+            volume = self.written(dask_array.from_array(self.values, chunks=15), side=16, origin=(-20, -3, 5))
+            grown = volume.dilate(3, self.folder / "b")
+        self.assertIn("100% Completed", printed.getvalue())
+        self.same(volume, self.grid)
+        self.grid.dilate(3)
+        self.same(grown, self.grid)
+        self.same(grown.select([1, 2], self.folder / "a"), self.grid.select([1, 2]))
+
+    def killed_within(self, place, call):
+        """What a call returns that writes to a folder, after a worker was killed with three files there, and a temporary file was left."""
+        pids, done = self.client.run(os.getpid), []
+
+        def kill():
+            while not done:
+                files = list(place.glob("*/*.vdbs"))
+                if len(files) >= 3:
+                    (files[0].parent / ".left.tmp").write_bytes(b"left")
+                    os.kill(next(iter(pids.values())), signal.SIGKILL)
+                    done.append(len(files))
+                time.sleep(0.001)
+
+        killer = threading.Thread(target=kill)
+        killer.start()
+        made = call(place)
+        killer.join()
+        self.assertLess(done[0], len(made._index.entries))
+        self.client.wait_for_workers(2)
+        self.assertEqual(len({*pids.values()} - {*self.client.run(os.getpid).values()}), 1)
+        return made
+
+    def test_a_worker_is_killed(self):
+        volume = self.written(self.values, side=8, origin=(-20, -3, 5))
+        self.grid.dilate(2)
+        self.same(self.killed_within(self.folder / "b", lambda place: volume.dilate(2, place)), self.grid)
