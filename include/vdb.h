@@ -19,12 +19,12 @@
  * vdb_scene_free delete it and leave the handle empty. Never change a field. Never copy a handle by assignment, unless the old
  * one isn't used again: vdb_grid_copy makes a second grid, and vdb_view_share a second view.
  *
- * Codes. Each call on a handle returns a code, except the three that free. After any code but VDB_OK no cell,
- * background, root limit or metadata has changed, no handle holds another grid, view or scene, and no pointer argument points
- * to another value. Two calls are exceptions: vdb_grid_write_many and vdb_grid_write_box may have set some voxels, and say
+ * Codes. Each call on a handle returns a code, except the three that free. After any code but VDB_OK every
+ * cell, background, root limit and metadata pair is as before, each handle holds the same grid, view or scene, and no pointer
+ * argument points to another value. Two calls are exceptions: vdb_grid_write_many and vdb_grid_write_box may have set some voxels, and say
  * which. Tiles and leaves may change after VDB_MEMORY and VDB_ROOT_LIMIT: for example, a fill, clip or voxelise that lacks
- * memory prunes. A call whose comment names no code returns VDB_OK or VDB_EMPTY alone; every call returns VDB_EMPTY if a handle that
- * it needs is empty. vdb_message returns the text of a code.
+ * memory prunes. A call whose comment names no code returns only VDB_OK or VDB_EMPTY. Every call returns VDB_EMPTY if a handle
+ * that it needs is empty. vdb_message returns the text of a code.
  *
  * Values cross as int64_t: 0 or 1 for VDB_BOOL, -2,147,483,648 to 2,147,483,647 for VDB_I32, any for VDB_I64. The library
  * writes a state as 1 (active) or 0 (inactive), and reads every state but 0 as active.
@@ -43,12 +43,12 @@
  *
  * Threads. One call at a time may use a handle, also for look-ups. Threads may use different handles at the same time, and
  * a handle may pass from one thread to another. To read one grid in several threads, give each a vdb_view of it. The library
- * keeps nothing outside its handles. Make no call in a signal handler.
+ * has no global state. Make no call in a signal handler.
  *
- * The caller owes what no code can say. Each pointer points to an initialised object of its type, or to as many as its
- * length says. It isn't null, even if the length is 0. No two arguments of a call overlap. A call on two handles of one type
- * tests that these differ, and returns VDB_SAME_GRID if not. This header does that: a program that calls the library without
- * it tests the handles itself.
+ * Preconditions that the library cannot check: each pointer points to an initialised object of its type, or to as many as its
+ * length says. It isn't null, even if the length is 0. No two arguments of a call overlap. For a call on two handles of one type
+ * this header tests that they differ, and returns VDB_SAME_GRID if not. A program that calls the library without the header tests
+ * the handles itself.
  */
 #ifndef VDB_H
 #define VDB_H
@@ -242,7 +242,7 @@ VDB_CODE vdb_grid_clip(vdb_grid *grid, const vdb_box *box);
 /* Makes the tree as small as its cells allow. No cell changes. */
 VDB_CODE vdb_grid_prune(vdb_grid *grid);
 
-/* Puts each active voxel of a box into a leaf. No cell changes. It passes an inactive tile at once, so the box may be large. An
+/* Stores each active voxel of a box in a leaf. No cell changes. It skips inactive tiles, so the box may be large. An
  * active tile takes memory: a leaf for each cube of 8 voxels. VDB_RANGE: corners out of order. VDB_MEMORY. */
 VDB_CODE vdb_grid_voxelise(vdb_grid *grid, const vdb_box *box);
 
@@ -267,32 +267,32 @@ VDB_CODE vdb_grid_subtract(vdb_grid *grid, vdb_grid *other);
 /* Deactivates each voxel that is inactive in the other grid. No value changes, and types may differ. VDB_MEMORY. */
 VDB_CODE vdb_grid_intersect(vdb_grid *grid, vdb_grid *other);
 
-/* Sets each voxel and the background to the greater or the lesser of its two values. A voxel that is active in either grid is
- * active then. VDB_KINDS. VDB_ROOT_LIMIT. VDB_MEMORY. */
+/* Sets each voxel and the background to the greater or the lesser of its two values. A voxel becomes active if it is active in
+ * either grid. VDB_KINDS. VDB_ROOT_LIMIT. VDB_MEMORY. */
 VDB_CODE vdb_grid_maximum(vdb_grid *grid, vdb_grid *other);
 VDB_CODE vdb_grid_minimum(vdb_grid *grid, vdb_grid *other);
 
-/* Sets each voxel and the background to the sum of its two values. A voxel that is active in either grid is active then.
+/* Sets each voxel and the background to the sum of its two values. A voxel becomes active if it is active in either grid.
  * VDB_KINDS. VDB_NO_SUM: both grids have booleans. VDB_SUM_RANGE: a sum is outside the type. VDB_ROOT_LIMIT. VDB_MEMORY. */
 VDB_CODE vdb_grid_sum(vdb_grid *grid, vdb_grid *other);
 
 /* Copies the value and the state of each voxel that is active in the other grid. VDB_KINDS. VDB_ROOT_LIMIT. VDB_MEMORY. */
 VDB_CODE vdb_grid_replace(vdb_grid *grid, vdb_grid *other);
 
-/* ---- Reports of a grid, none of which needs memory ------------------------------------------------------------------ */
+/* ---- Reports of a grid, none of which allocates -------------------------------------------------------------------- */
 
 /* Returns the number of active voxels, of the grid or of a box. VDB_RANGE: corners out of order. */
 VDB_CODE vdb_grid_count(vdb_grid *grid, vdb_count *count);
 VDB_CODE vdb_grid_count_in(vdb_grid *grid, const vdb_box *box, vdb_count *count);
 
-/* Returns the bounding box of the active voxels. If no voxel is active, *found is 0 and *box stays; otherwise *found is 1. */
+/* Returns the bounding box of the active voxels. If no voxel is active, *found is 0 and *box is unchanged; otherwise *found is 1. */
 VDB_CODE vdb_grid_bounds(vdb_grid *grid, vdb_box *box, int32_t *found);
 
 /* Returns the size of the smallest tree of the grid's cells. */
 VDB_CODE vdb_grid_census(vdb_grid *grid, vdb_census *census);
 
 /* Returns the first active voxel of a box in block order, or the first one after *at, and its value. If none is left, *found
- * is 0, and *at and *value stay; otherwise *found is 1. VDB_RANGE: corners out of order.
+ * is 0, and *at and *value are unchanged; otherwise *found is 1. VDB_RANGE: corners out of order.
  *
  *     for (code = vdb_grid_first_active(g, &box, &at, &value, &found); !code && found;
  *          code = vdb_grid_next_active(g, &box, &at, &value, &found))
@@ -303,16 +303,16 @@ VDB_CODE vdb_grid_next_active(vdb_grid *grid, const vdb_box *box, vdb_coord *at,
 
 /* ---- The leaves of a grid -------------------------------------------------------------------------------------------- */
 
-/* Returns the number of leaves of the grid's tree. It depends on how the cells were written; after vdb_grid_prune it is that of the
- * census. */
+/* Returns the number of leaves of the grid's tree. It depends on how the cells were written. After vdb_grid_prune it equals `leaf` of
+ * the census. */
 VDB_CODE vdb_grid_leaf_count(vdb_grid *grid, uint64_t *count);
 
-/* Copies leaves in block order, as many as `origins` has elements or as are left: the first ones, or those whose least corner lies past
- * a coordinate, such as past the last origin of the call before. *copied is their number, and 0 if none is left. Tiles aren't leaves.
+/* Copies leaves in block order, at most as many as `origins` has elements: the first ones, or those whose least corner lies past a
+ * coordinate, such as the last origin of the previous call. Sets *copied to their number, 0 if none is left. Tiles aren't leaves.
  *
  * Element k of `origins` becomes the least corner of leaf k. A voxel of the leaf is dx, dy and dz past it, each 0 to 7. Its value is
  * element 512 k + 64 dx + 8 dy + dz of `values`. Its state is bit 8 dy + dz of word 8 k + dx of `states`, where bit j counts 2^j.
- * No element past those of the copied leaves changes. An array of length 0 is left out. Its pointer isn't null.
+ * No element past those of the copied leaves changes. Pass length 0 to omit an array; its pointer must still not be null.
  * VDB_RANGE: `origins` has no element, or `values` has neither 512 times as many nor 0, or `states` neither 8 times as many nor 0.
  *
  *     for (code = vdb_grid_first_leaves(g, at, 64, values, 64 * 512, states, 64 * 8, &n); !code && n;
@@ -326,23 +326,23 @@ VDB_CODE vdb_grid_next_leaves(vdb_grid *grid, int32_t x, int32_t y, int32_t z, v
 
 /* ---- Many voxels of a grid at once ---------------------------------------------------------------------------------- */
 
-/* Values (int64_t) and states (uint8_t) are arrays with lengths of their own, in elements. An array of length 0 is left out: that part
- * isn't read, or the voxels keep it. Its pointer isn't null. */
+/* Values (int64_t) and states (uint8_t) are arrays with lengths of their own, in elements. Pass length 0 to omit an array: that part
+ * isn't read, or the voxels keep it. Its pointer must still not be null. */
 
-/* Writes the value and the state of each voxel of `at` to the element of the same index, through an accessor or without one.
+/* Copies the value and the state of each voxel of `at` to the element of the same index, through an accessor or without one.
  * VDB_RANGE: no such accessor, or the length of an array is neither `count` nor 0. */
 VDB_CODE vdb_grid_get_many(vdb_grid *grid, int32_t accessor, const vdb_coord *at, size_t count, int64_t *values, size_t values_len,
                            uint8_t *states, size_t states_len);
 
 /* Sets each voxel of `at` to the value and the state of the same index, one after another, through an accessor or without one.
  * VDB_RANGE: no such accessor, a value outside the type, the length of an array is neither `count` nor 0, or both are 0 and `count`
- * isn't. Nothing has changed then. VDB_ROOT_LIMIT, VDB_MEMORY: the voxel at index *written failed, and those before it are set. After
+ * isn't. Nothing has changed after it. VDB_ROOT_LIMIT, VDB_MEMORY: the voxel at index *written failed, and those before it are set. After
  * VDB_OK, *written is `count`. */
 VDB_CODE vdb_grid_write_many(vdb_grid *grid, int32_t accessor, const vdb_coord *at, size_t count, const int64_t *values,
                              size_t values_len, const uint8_t *states, size_t states_len, size_t *written);
 
-/* Writes the value and the state of each voxel of a box to its element. No other element changes. It reads the tree tile by tile and
- * leaf by leaf, and needs no memory.
+/* Copies the value and the state of each voxel of a box to its element. No other element changes. It reads the tree tile by tile and
+ * leaf by leaf, and allocates nothing.
  * VDB_RANGE: corners out of order, rows that overlap by their strides, or an array that is neither of length 0 nor long enough. */
 VDB_CODE vdb_grid_read_box(vdb_grid *grid, const vdb_box *box, const vdb_strides *strides, int64_t *values, size_t values_len,
                            uint8_t *states, size_t states_len);
@@ -350,7 +350,7 @@ VDB_CODE vdb_grid_read_box(vdb_grid *grid, const vdb_box *box, const vdb_strides
 /* Sets each voxel of a box to the value and the state of its element, by x, then y, then z, through an accessor or without one. A box
  * of at least 8 voxels along each axis takes the least time: it is written leaf by leaf.
  * VDB_RANGE: no such accessor, corners out of order, or rows that overlap by their strides; an array that is neither of length 0 nor
- * long enough, both of length 0, or a value outside the type. Nothing has changed then. VDB_ROOT_LIMIT, VDB_MEMORY: the first *written
+ * long enough, both of length 0, or a value outside the type. Nothing has changed after it. VDB_ROOT_LIMIT, VDB_MEMORY: the first *written
  * voxels of the box in that order are set, and the one after them failed. After VDB_OK, *written is the number of voxels of the box. */
 VDB_CODE vdb_grid_write_box(vdb_grid *grid, int32_t accessor, const vdb_box *box, const vdb_strides *strides, const int64_t *values,
                             size_t values_len, const uint8_t *states, size_t states_len, size_t *written);
@@ -359,11 +359,10 @@ VDB_CODE vdb_grid_write_box(vdb_grid *grid, int32_t accessor, const vdb_box *box
 
 /* A view is a grid that several threads read at the same time, each through a handle of its own. No call changes the grid. */
 
-/* Moves the grid out of its handle into a view, which replaces that of the other handle. No cell is copied. VDB_MEMORY. */
+/* Moves the grid out of its handle into a new view, which replaces the other handle's view. No cell is copied. VDB_MEMORY. */
 VDB_CODE vdb_view_new(vdb_grid *grid, vdb_view *view);
 
-/* Makes another view of the same grid, which replaces that of the other handle: give it to another thread. VDB_SAME_GRID.
- * VDB_MEMORY. */
+/* Makes another view of the same grid, for another thread. It replaces the other handle's view. VDB_SAME_GRID. VDB_MEMORY. */
 VDB_CODE vdb_view_share(vdb_view *from, vdb_view *to);
 
 /* Copies the grid of a view, which replaces the grid of the other handle. The accessors of the copy are empty. VDB_MEMORY. */
@@ -375,7 +374,7 @@ VDB_NONNULL void vdb_view_free(vdb_view *view);
 /* Returns the value and the state of a voxel, from the root. */
 VDB_CODE vdb_view_get(vdb_view *view, int32_t x, int32_t y, int32_t z, int64_t *value, int32_t *active);
 
-/* Writes the values and the states of many voxels, or of a box, to arrays, as vdb_grid_get_many and vdb_grid_read_box do, with the same
+/* Copies the values and the states of many voxels, or of a box, to arrays, as vdb_grid_get_many and vdb_grid_read_box do, with the same
  * codes. */
 VDB_CODE vdb_view_get_many(vdb_view *view, const vdb_coord *at, size_t count, int64_t *values, size_t values_len, uint8_t *states,
                            size_t states_len);
@@ -400,8 +399,8 @@ VDB_CODE vdb_view_next_leaves(vdb_view *view, int32_t x, int32_t y, int32_t z, v
 
 /* ---- A scene -------------------------------------------------------------------------------------------------------- */
 
-/* A name, a key or a text is an array of bytes and its length. No 0 ends it. VDB_NAME: a name or a key has another form than
- * a letter a to z, then up to 15 of a to z, 0 to 9 and _. */
+/* A name, a key or a text is an array of bytes and its length. No 0 ends it. VDB_NAME: a name or a key isn't a letter a to z and
+ * then up to 15 of a to z, 0 to 9 and _. */
 
 /* Creates a scene without grids. It replaces the handle's scene. VDB_MEMORY. */
 VDB_CODE vdb_scene_new(vdb_scene *scene);
@@ -409,8 +408,8 @@ VDB_CODE vdb_scene_new(vdb_scene *scene);
 /* Frees the handle's scene with its grids, if it has one, and leaves the handle empty. */
 VDB_NONNULL void vdb_scene_free(vdb_scene *scene);
 
-/* Creates a scene from the bytes of a scene file. It replaces the handle's scene. VDB_FILE_..: the first fault of the file.
- * VDB_MEMORY. */
+/* Creates a scene from the bytes of a scene file. It replaces the handle's scene. VDB_FILE_..: the first fault of the file; which
+ * fault inside a grid comes first is tested, not proved. VDB_MEMORY. */
 VDB_CODE vdb_scene_load(vdb_scene *scene, const uint8_t *bytes, size_t len);
 
 /* Returns the length of the scene's file in bytes. A file has at most 268,435,456. */
@@ -433,8 +432,8 @@ VDB_CODE vdb_scene_put(vdb_scene *scene, const char *name, size_t len, vdb_grid 
  * VDB_MEMORY. */
 VDB_CODE vdb_scene_take(vdb_scene *scene, const char *name, size_t len, vdb_grid *grid);
 
-/* Exchanges a grid of the scene with that of the handle, which may have another type. The metadata stay in the scene. It takes
- * no memory, so a second call that exchanges them back can't fail. VDB_NAME. VDB_NO_GRID. */
+/* Exchanges a grid of the scene with that of the handle, which may have another type. The metadata stay in the scene. It allocates
+ * nothing, so a second call that exchanges them back can't fail. VDB_NAME. VDB_NO_GRID. */
 VDB_CODE vdb_scene_swap(vdb_scene *scene, const char *name, size_t len, vdb_grid *grid);
 
 /* Copies a grid of the scene, and replaces the grid of the handle by it. VDB_NAME. VDB_NO_GRID. VDB_MEMORY. */

@@ -1,5 +1,5 @@
 // SPDX-License-Identifier: Apache-2.0
-// libvdb for C++17 and later: owners in place of handles, exceptions in place of codes.
+// libvdb for C++17 and later: objects that own handles, exceptions instead of codes.
 //
 //     #include <vdb.hpp>
 //
@@ -10,11 +10,12 @@
 //
 // A call that fails throws: MemoryError if an allocation failed, std::system_error if a file can't be read or written,
 // std::overflow_error if a count exceeds 2^64 - 1, otherwise Error with the code of vdb.h. Every cell, background, limit and
-// metadata pair is then as it was, unless the call is write_many or write_box. Tiles and leaves may have changed.
+// metadata pair is then as it was, unless the call is write_many, write_box or a put with metadata pairs, which say what they leave.
+// Tiles and leaves may have changed.
 //
 // Owners move and don't copy; copy() makes a second grid. A moved-from grid or scene is empty, and its calls throw VDB_EMPTY.
-// A call that is const changes no cell, but it may change what an owner counts and caches. So no call, const or not, may run on
-// an owner that another thread uses. To read one grid in several threads, give each a View of it.
+// A const call changes no cell, but it may change the owner's counts and caches. So make no call, const or not, on an owner that
+// another thread uses. To read one grid in several threads, give each a View of it.
 #ifndef VDB_HPP
 #define VDB_HPP
 
@@ -62,8 +63,8 @@ using Box = vdb_box;
 using Census = vdb_census;
 using Strides = vdb_strides;
 
-// The elements of an array or a vector that something else owns, like std::span. It is one type in C++17 and C++20, so code of both
-// may be linked.
+// The elements of an array or a vector that something else owns, like std::span. It is the same type in C++17 and C++20, so their
+// objects can be linked together.
 template <typename T> class Span {
 public:
     Span() = default;
@@ -108,7 +109,7 @@ struct Voxel {
     friend bool operator!=(const Voxel &a, const Voxel &b) { return !(a == b); }
 };
 
-// A call that failed. `what` is the text of the code, after the file if the call has one.
+// The error of a call. `what` is the text of the code, after the file's name if the call has one.
 class Error : public std::runtime_error {
 public:
     explicit Error(int32_t code, const std::string &file = "")
@@ -119,7 +120,7 @@ private:
     int32_t code_;
 };
 
-// An allocation failed.
+// The error of a failed allocation.
 class MemoryError : public std::bad_alloc {
 public:
     const char *what() const noexcept override { return vdb_message(VDB_MEMORY); }
@@ -144,7 +145,7 @@ inline void check(int32_t code, const std::string &file = "")
 
 namespace detail {
 
-// The bytes of a text as vdb.h wants them: never null.
+// Returns the bytes of a text, never null, as vdb.h requires.
 inline const char *bytes_of(std::string_view text) { return text.empty() ? "" : text.data(); }
 
 template <typename T> T *data_of(Span<T> span)
@@ -153,7 +154,7 @@ template <typename T> T *data_of(Span<T> span)
     return span.empty() ? &none : span.data();
 }
 
-// A count as one number. Throws std::overflow_error above 2^64 - 1.
+// Returns a count as one number. Throws std::overflow_error above 2^64 - 1.
 inline uint64_t whole(const vdb_count &count)
 {
     if (count.high != 0)
@@ -161,7 +162,7 @@ inline uint64_t whole(const vdb_count &count)
     return count.low;
 }
 
-// What `it++` returns: the element before the step.
+// The result of `it++`: the element before the step.
 template <typename T> class Before {
 public:
     explicit Before(const T &value) : value_(value) {}
@@ -202,7 +203,7 @@ public:
         return made;
     }
 
-    // The handle, for calls of vdb.h. It stays this object's.
+    // Returns the handle, for calls of vdb.h. This object still owns it.
     vdb_grid *handle() { return &grid_; }
 
     Kind kind() const
@@ -229,7 +230,7 @@ public:
     void set_value(Coord at, int64_t value) { check(vdb_grid_set_value(&grid_, VDB_NO_ACCESSOR, at.x, at.y, at.z, value)); }
     void set_active(Coord at, bool active) { check(vdb_grid_set_active(&grid_, VDB_NO_ACCESSOR, at.x, at.y, at.z, active)); }
 
-    // Accessor 0 to 7 of this grid.
+    // Returns accessor 0 to 7 of this grid.
     Accessor accessor(int32_t index) &;
 
     void fill(const Box &box, int64_t value, bool active = true) { check(vdb_grid_fill(&grid_, &box, value, active)); }
@@ -239,28 +240,28 @@ public:
     void dilate(uint32_t iterations = 1) { check(vdb_grid_dilate(&grid_, iterations)); }
     void erode(uint32_t iterations = 1) { check(vdb_grid_erode(&grid_, iterations)); }
 
-    // Dilates or erodes a copy, calls progress(done, iterations) after each iteration, and then replaces the grid by the copy. If
-    // progress throws, the grid stays as it was.
+    // Dilates or erodes a copy, calls progress(done, iterations) after each iteration, and replaces the grid by the copy at the end.
+    // If progress throws, the grid is unchanged.
     template <typename Progress> void dilate(uint32_t iterations, Progress &&progress) { iterate(vdb_grid_dilate, iterations, progress); }
     template <typename Progress> void erode(uint32_t iterations, Progress &&progress) { iterate(vdb_grid_erode, iterations, progress); }
 
-    // Reads or sets many voxels: values[i] and states[i] are those of at[i]. An array that is left out is neither read nor set.
-    // If a write throws other than VDB_RANGE, the first *written voxels are set.
+    // Reads or sets many voxels: values[i] and states[i] are those of at[i]. An omitted array is neither read nor set. If a write
+    // throws another error than VDB_RANGE, the first *written voxels are set.
     void get_many(Span<const Coord> at, Span<int64_t> values, Span<uint8_t> states = {}) const { get_by(VDB_NO_ACCESSOR, at, values, states); }
     void write_many(Span<const Coord> at, Span<const int64_t> values, Span<const uint8_t> states = {}, std::size_t *written = nullptr)
     {
         set_by(VDB_NO_ACCESSOR, at, values, states, written);
     }
 
-    // Reads a box into arrays: z fastest and without gaps, unless there are strides. An array that is left out isn't read.
+    // Reads a box into arrays: z fastest and without gaps, unless strides are given. An omitted array isn't read.
     void read_box(const Box &box, Span<int64_t> values, Span<uint8_t> states = {}) const { read_box(box, strides_of(box), values, states); }
     void read_box(const Box &box, const Strides &strides, Span<int64_t> values, Span<uint8_t> states = {}) const
     {
         check(vdb_grid_read_box(&grid_, &box, &strides, detail::data_of(values), values.size(), detail::data_of(states), states.size()));
     }
 
-    // Sets each voxel of a box from arrays: z fastest and without gaps, unless there are strides. Of an array that is left out,
-    // the voxels keep their own part. If a write throws other than VDB_RANGE, the first *written voxels are set.
+    // Sets each voxel of a box from arrays: z fastest and without gaps, unless strides are given. If an array is omitted, the voxels
+    // keep that part. If a write throws another error than VDB_RANGE, the first *written voxels are set.
     void write_box(const Box &box, Span<const int64_t> values, Span<const uint8_t> states = {}, std::size_t *written = nullptr)
     {
         write_box(box, strides_of(box), values, states, written);
@@ -285,7 +286,7 @@ public:
     void sum(const Grid &other) { combine(vdb_grid_sum, other); }
     void replace(const Grid &other) { combine(vdb_grid_replace, other); }
 
-    // The number of active voxels of a box. Throws std::overflow_error above 2^64 - 1.
+    // Returns the number of active voxels of a box. Throws std::overflow_error above 2^64 - 1.
     uint64_t count(const Box &box = everywhere) const
     {
         vdb_count count = {0, 0};
@@ -293,7 +294,7 @@ public:
         return detail::whole(count);
     }
 
-    // The bounding box of the active voxels, if there are any.
+    // Returns the bounding box of the active voxels, if any is active.
     std::optional<Box> bounds() const
     {
         Box box = everywhere;
@@ -309,7 +310,7 @@ public:
         return census;
     }
 
-    // The number of leaves of the tree. It depends on how the cells were written.
+    // Returns the number of leaves of the tree. It depends on how the cells were written.
     uint64_t leaf_count() const
     {
         uint64_t count = 0;
@@ -317,12 +318,12 @@ public:
         return count;
     }
 
-    // The leaves of the tree in block order, for a range-based for. Tiles aren't among them.
+    // Returns the leaves of the tree in block order, for a range-based for. Tiles aren't among them.
     LeavesOf<Grid> leaves() const &;
     LeavesOf<Grid> leaves() const && = delete;
 
-    // The active voxels of a box in block order, for a range-based for. They may change during the loop: each step finds the
-    // first active voxel after the last one.
+    // Returns the active voxels of a box in block order, for a range-based for. The loop may change them: each step finds the first
+    // active voxel after the last one.
     ActiveVoxelsOf<Grid> voxels(const Box &box = everywhere) const &;
     ActiveVoxelsOf<Grid> voxels(const Box &box = everywhere) const && = delete;
 
@@ -472,7 +473,7 @@ using ActiveVoxels = ActiveVoxelsOf<Grid>;
 
 inline ActiveVoxels Grid::voxels(const Box &box) const & { return ActiveVoxels(*this, box); }
 
-// A leaf: a cube of 8 x 8 x 8 voxels, as it was when the loop read it.
+// A copy of a leaf, a cube of 8 x 8 x 8 voxels.
 struct Leaf {
     // The least corner.
     Coord origin;
@@ -481,7 +482,7 @@ struct Leaf {
     // The states: bit 8 y + z of word x.
     std::array<uint64_t, 8> states;
 
-    // The cell of a voxel, by its distance of 0 to 7 from the least corner along each axis.
+    // Returns the cell of a voxel, by its distance of 0 to 7 from the least corner along each axis.
     Cell at(int x, int y, int z) const { return {values.data()[64 * x + 8 * y + z], (states.data()[x] >> (8 * y + z) & 1) != 0}; }
 };
 
@@ -544,10 +545,53 @@ using Leaves = LeavesOf<Grid>;
 
 inline Leaves Grid::leaves() const & { return Leaves(*this); }
 
+// A set of voxels, like OpenVDB's MaskGrid: a grid of booleans that is 1 where it is active, and 0 everywhere else. It converts to
+// that grid. A mask of any other grid is the set of its active voxels. put(name, std::move(mask).grid()) stores it in a scene.
+class Mask {
+public:
+    explicit Mask(uint32_t limit = VDB_LIMIT_DEFAULT) : grid_(Kind::boolean, 0, limit) {}
+    explicit Mask(const Grid &grid) : Mask(grid.limit())
+    {
+        Grid whole(Kind::boolean, 1, grid.limit());
+        whole.unite(grid);
+        grid_.replace(whole);
+    }
+    Mask copy() const { return Mask(grid_); }
+
+    const Grid &grid() const & { return grid_; }
+    Grid grid() && { return std::move(grid_); }
+    operator const Grid &() const & { return grid_; }
+
+    bool get(Coord at) const { return grid_.get(at).active; }
+    void set(Coord at, bool within = true) { grid_.set(at, within, within); }
+    void fill(const Box &box, bool within = true) { grid_.fill(box, within, within); }
+    void clip(const Box &box) { grid_.clip(box); }
+    void dilate(uint32_t iterations = 1) { change([&](Grid &made) { made.dilate(iterations); }); }
+    void erode(uint32_t iterations = 1) { change([&](Grid &made) { made.erode(iterations); }); }
+    void unite(const Grid &other) { change([&](Grid &made) { made.unite(other); }); }
+    void subtract(const Grid &other) { change([&](Grid &made) { made.subtract(other); }); }
+    void intersect(const Grid &other) { change([&](Grid &made) { made.intersect(other); }); }
+
+    // Returns the number of the set's voxels in a box. Throws std::overflow_error above 2^64 - 1.
+    uint64_t count(const Box &box = everywhere) const { return grid_.count(box); }
+    std::optional<Box> bounds() const { return grid_.bounds(); }
+
+private:
+    // Changes states by a call on a copy, and replaces the mask by it.
+    template <typename Call> void change(Call &&call)
+    {
+        Grid made = grid_.copy();
+        call(made);
+        *this = Mask(made);
+    }
+
+    Grid grid_;
+};
+
 // A grid that several threads read, each through a view of its own.
 class View {
 public:
-    // Moves a grid into a view, which leaves `grid` empty.
+    // Moves a grid into a view and leaves `grid` empty.
     explicit View(Grid &&grid) { check(vdb_view_new(grid.handle(), &view_)); }
     View(View &&other) noexcept : view_(std::exchange(other.view_, vdb_view VDB_VIEW_INIT)) {}
     View &operator=(View &&other) noexcept
@@ -560,7 +604,7 @@ public:
     }
     ~View() { vdb_view_free(&view_); }
 
-    // Another view of the same grid, for another thread. The grid ends with its last view.
+    // Returns another view of the same grid, for another thread. The last view frees the grid.
     View share() const
     {
         View made;
@@ -568,7 +612,7 @@ public:
         return made;
     }
 
-    // A copy of the grid, which may change.
+    // Returns a copy of the grid, which may be changed.
     Grid copy() const
     {
         Grid made;
@@ -576,7 +620,7 @@ public:
         return made;
     }
 
-    // The handle, for calls of vdb.h. It stays this object's.
+    // Returns the handle, for calls of vdb.h. This object still owns it.
     vdb_view *handle() { return &view_; }
 
     Cell get(Coord at) const
@@ -691,8 +735,8 @@ public:
         return made;
     }
 
-    // Writes the scene to a temporary file in the same folder, which then replaces `path`. Permissions stay, and a link is followed. A
-    // pipe or a device is written itself.
+    // Writes the scene to a temporary file in the same folder, which then replaces `path`. It keeps permissions, follows links, and
+    // writes pipes and devices in place.
     void save_file(const std::string &path) const { detail::replace(path, to_bytes(path)); }
 
     // Returns the bytes of the scene file. `file` is its name in the text of an error.
@@ -707,10 +751,10 @@ public:
         return bytes;
     }
 
-    // The handle, for calls of vdb.h. It stays this object's.
+    // Returns the handle, for calls of vdb.h. This object still owns it.
     vdb_scene *handle() { return &scene_; }
 
-    // The names of the grids, in order.
+    // Returns the names of the grids, in order.
     std::vector<std::string> names() const
     {
         uint64_t count = 0, used = 0;
@@ -724,7 +768,7 @@ public:
         return names;
     }
 
-    // Whether the scene has a grid of this name.
+    // Returns whether the scene has a grid of this name.
     bool contains(std::string_view name) const
     {
         uint64_t count = 0;
@@ -734,11 +778,11 @@ public:
         return code == VDB_OK;
     }
 
-    // Moves a grid into the scene, which leaves `grid` empty.
+    // Moves a grid into the scene and leaves `grid` empty.
     void put(std::string_view name, Grid &&grid) { check(vdb_scene_put(&scene_, detail::bytes_of(name), name.size(), &grid.grid_)); }
 
-    // Moves a grid with metadata pairs into the scene. If it throws, `grid` has the grid again, or the scene keeps it if memory doesn't
-    // suffice to move it back.
+    // Moves a grid with metadata pairs into the scene. If it throws, it moves the grid back to `grid`; if memory is too short for that,
+    // the grid stays in the scene.
     void put(std::string_view name, Grid &&grid, const std::map<std::string, std::string> &pairs)
     {
         put(name, std::move(grid));
@@ -752,14 +796,14 @@ public:
     }
 
     // Calls `use` with a grid of the scene, which it may change, and returns what `use` returns. No cell is copied, and the metadata pairs
-    // stay. `use` must not move the grid away, nor use the scene, in which an empty grid has the name meanwhile.
+    // stay. `use` must neither move the grid away nor use the scene, which has an empty grid of that name during the call.
     template <typename Use> decltype(auto) edit(std::string_view name, Use &&use)
     {
         Lent lent(scene_, name);
         return std::forward<Use>(use)(lent.grid);
     }
 
-    // Calls `use` with a grid of the scene, as `edit` does, for `use` that only reads it.
+    // Calls `use` with a grid of the scene to read, otherwise as `edit` does.
     template <typename Use> decltype(auto) read(std::string_view name, Use &&use) const
     {
         const Lent lent(scene_, name);
@@ -774,7 +818,7 @@ public:
         return grid;
     }
 
-    // Copies a grid of the scene.
+    // Returns a copy of a grid of the scene.
     Grid copy(std::string_view name) const
     {
         Grid grid;
@@ -809,7 +853,7 @@ public:
     }
 
 private:
-    // A grid of a scene, out of its place until this object ends. To put it back takes no memory.
+    // A grid taken out of a scene until this object ends. Putting it back allocates nothing.
     struct Lent {
         Lent(vdb_scene &scene, std::string_view name) : scene_(scene), name_(name) { check(swap()); }
         Lent(const Lent &) = delete;

@@ -22,7 +22,7 @@ namespace detail {
 
 [[noreturn]] inline void fail(int error, const std::string &path) { throw std::system_error(error, std::generic_category(), path); }
 
-// A descriptor, which is closed at its end.
+// Owns a descriptor and closes it.
 struct Descriptor {
     int number;
     ~Descriptor() { ::close(number); }
@@ -49,7 +49,7 @@ inline std::vector<uint8_t> read(const std::string &path, std::size_t most)
     return bytes;
 }
 
-// Returns where the links from `path` lead, also if nothing is there yet.
+// Returns the path to which the links from `path` lead, even if no file is there yet.
 inline std::string followed(const std::string &path)
 {
     std::string place = path;
@@ -100,7 +100,7 @@ inline bool resemble(int file, const struct stat &old)
     return (owned || errno == EPERM) && ::fchmod(file, old.st_mode & 0777) == 0;
 }
 
-// Closes a file. Returns the error of the step before unless that is `done`, or of the closing, or 0.
+// Closes a file. Returns the error of the previous step unless that is `done`, or of the closing, or 0.
 inline int closed(int file, bool done)
 {
     const int error = done ? 0 : errno;
@@ -118,7 +118,8 @@ inline void synchronise(const std::string &place)
     ::close(file);
 }
 
-// Closes a file beside `place`, which it replaces if the step before is `done`, and else removes it. Returns the error or 0.
+// Closes a file beside `place`. If the previous step is `done`, the file replaces `place`; otherwise it is removed. Returns the error
+// or 0.
 inline int close_beside(int file, bool done, const std::string &beside, const std::string &place)
 {
     int error = closed(file, done);
@@ -142,7 +143,7 @@ inline int write_beside(const std::string &place, const struct stat *old, const 
     return close_beside(file, done, beside, place);
 }
 
-// Writes a pipe or a device itself. Returns the error or 0.
+// Writes a pipe or a device in place. Returns the error or 0.
 inline int write_itself(const std::string &path, const std::vector<uint8_t> &bytes)
 {
     const int file = ::open(path.c_str(), O_WRONLY | O_CLOEXEC);

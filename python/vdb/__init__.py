@@ -12,15 +12,18 @@
 ImportError. `vdb.scenefile` reads and writes scene files without it, by classes of the same names, whose voxels don't change.
 Coordinates are voxels; array axes are x, y, z. All errors are `VdbError`.
 """
-from . import errors, scenefile
+from . import errors, formats, label_names, scenefile
 from .blocks import Boxes, Labels
 from .errors import *  # noqa: F401,F403
 from .forms import Leaf, Metadata
 from .grid import Census, Grid
+from .image_view import ImageView
+from .mask import Mask
 from .scene import Scene, load, loads
 from .view import View
 
 __version__ = "1.1.0"
 __all__ = [
-    "load", "loads", "Scene", "Grid", "View", "Census", "Boxes", "Labels", "Leaf", "Metadata", "scenefile", "__version__", *errors.__all__,
+    "load", "loads", "Scene", "Grid", "Mask", "View", "ImageView", "Census", "Boxes", "Labels", "Leaf", "Metadata", "formats", "label_names",
+    "scenefile", "__version__", *errors.__all__,
 ]  # fmt: skip

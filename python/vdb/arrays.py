@@ -10,7 +10,7 @@ from typing import Iterable, Iterator, Sequence, Tuple
 import numpy as np
 
 from .errors import RangeError
-from .forms import KINDS, Array, Kind, Value, check_limit, narrow
+from .forms import KINDS, Array, Kind, Progress, Value, check_limit, narrow
 from .library import BUFFER, COORD, I64, LIBRARY, Box, Coord, GridHandle, Held, Strides
 
 #: How many voxels of a dense array are written at a time, about, and how many are read: their numbers fit the processor's cache.
@@ -51,12 +51,17 @@ def spans(low: int, length: int, most: int) -> "Iterator[slice]":
         first = end
 
 
+def plain(array: np.ndarray, dtype: "type | None" = None) -> np.ndarray:
+    """Returns numbers as the library takes them, of a dtype if one is given: without gaps, and aligned."""
+    return np.require(array, dtype, ["C", "A"])
+
+
 def coordinates_of(at: Array) -> np.ndarray:
     """Returns coordinates, integers of shape (n, 3), as the library takes them. Raises DtypeError or RangeError for others."""
     given = KINDS["i32"].array(at, "coordinate")
     if given.ndim != 2 or given.shape[1] != 3:
         raise RangeError(f"coordinates have the shape {given.shape}, not (n, 3)")
-    return np.ascontiguousarray(given)
+    return plain(given)
 
 
 def pointers(numbers: np.ndarray, states: np.ndarray) -> tuple:
@@ -75,7 +80,7 @@ def read_voxels(held: Held, kind: Kind, at: Array) -> "tuple[np.ndarray, np.ndar
 
 def write_voxels(held: Held, at: np.ndarray, numbers: np.ndarray, states: np.ndarray) -> None:
     """Sets the values and the states of voxels, one after another."""
-    parts = np.ascontiguousarray(numbers, np.int64), np.ascontiguousarray(states)
+    parts = plain(numbers, np.int64), np.ascontiguousarray(states)
     held.call("write_many", ACCESSOR, at.ctypes.data_as(COORD), len(at), *pointers(*parts), byref(c_size_t()))
 
 
@@ -115,7 +120,7 @@ def read_box(
     """
     some = values if values is not None else active
     assert some is not None
-    direct = values is not None and values.dtype == np.int64 and values.flags.c_contiguous
+    direct = values is not None and values.dtype == np.int64 and values.flags.carray
     room, marks = Room(np.int64), Room(np.bool_)
     for part in bricks(low, some.shape, direct):
         shape = shape_of(part)
@@ -135,7 +140,7 @@ def write_box(held: Held, low: Sequence[int], values: "np.ndarray | None", activ
     some = values if values is not None else active
     assert some is not None
     for part in bricks(low, some.shape, is_whole=True):
-        numbers = np.empty(0, np.int64) if values is None else np.ascontiguousarray(values[part], np.int64)
+        numbers = np.empty(0, np.int64) if values is None else plain(values[part], np.int64)
         states = np.empty(0, np.bool_) if active is None else np.ascontiguousarray(active[part])
         held.call("write_box", ACCESSOR, *place_of(low, part), *pointers(numbers, states), byref(c_size_t()))
 
@@ -147,12 +152,17 @@ def new_grid(kind: Kind, background: "Value | None", limit: int) -> Held:
     return held
 
 
-def from_dense(held: Held, low: Sequence[int], values: np.ndarray, active: "np.ndarray | None", background: Value) -> None:
+def from_dense(
+    held: Held, low: Sequence[int], values: np.ndarray, active: "np.ndarray | None", background: Value, progress: "Progress | None" = None
+) -> None:
     """Writes dense arrays to an empty grid, by the leaf extents that have a voxel which is active or differs from the background. It fills
-    the leaf extents of a mask (bool values without states) that have no background."""
-    is_mask = values.dtype == np.bool_ and active is None
-    for part in bricks(low, values.shape, is_whole=True):
-        some = values[part]
+    the leaf extents of a mask (bool values without states) that have no background. After each slab it calls `progress` with the number of
+    voxels that are done, and of all."""
+    is_mask, done = values.dtype == np.bool_ and active is None, 0
+    turn = -1 if values.flags.f_contiguous else 1  # an array in column order is cut along z, so that each slab lies in one piece
+    for brick in bricks(low[::turn], values.shape[::turn], is_whole=True):
+        part = brick[::turn]
+        some = np.ascontiguousarray(values[part])
         listed = np.not_equal(some, background, out=np.empty(some.shape, np.bool_))
         states = listed if active is None else np.ascontiguousarray(active[part])
         corner = np.array([at + it.start for at, it in zip(low, part)], np.int64)
@@ -161,7 +171,10 @@ def from_dense(held: Held, low: Sequence[int], values: np.ndarray, active: "np.n
             fill_boxes(held, *boxes_of(corner, *whole), int(not background))
         if len(begins):
             steps = some.shape[1] * some.shape[2], some.shape[2], 1
-            write_boxes(held, *boxes_of(corner, begins, ends), np.ascontiguousarray(some, np.int64), states, begins @ steps, Strides(*steps))
+            write_boxes(held, *boxes_of(corner, begins, ends), plain(some, np.int64), states, begins @ steps, Strides(*steps))
+        done += some.size
+        if progress:
+            progress(done, values.size)
     held.call("prune")
 
 

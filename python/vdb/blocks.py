@@ -2,9 +2,12 @@
 """The parts of a grid: leaves, and cubes of 8, 128 or 4,096 voxels along each axis. Their coordinates, runs and labels."""
 from __future__ import annotations
 
-from typing import Iterator, NamedTuple, Sequence, Union
+from typing import TYPE_CHECKING, Iterator, Mapping, NamedTuple, Sequence, Union
 
 import numpy as np
+
+if TYPE_CHECKING:
+    from .label_names import Label
 
 
 class Rows(NamedTuple):
@@ -25,7 +28,14 @@ class Cubes(NamedTuple):
 
 
 class Boxes(NamedTuple):
-    """Boxes of active voxels, each of one value: least and greatest corners (n x 3, int32), both included, and values (n)."""
+    """Boxes of active voxels, each of one value: least and greatest corners (n x 3, int32), both included, and values (n).
+
+    Examples
+    --------
+    >>> grid = vdb.Grid.from_array(np.array([[[1, 1, 2]]]))
+    >>> [(boxes.low.tolist(), boxes.high.tolist(), boxes.values.tolist()) for boxes in grid.boxes()]
+    [([[0, 0, 0], [0, 0, 2]], [[0, 0, 1], [0, 0, 2]], [1, 2])]
+    """
 
     low: np.ndarray
     high: np.ndarray
@@ -34,12 +44,34 @@ class Boxes(NamedTuple):
 
 class Labels(NamedTuple):
     """The values of active voxels, each once and rising: arrays of the values (n), of how many voxels have each (n, int64), and of the
-    least and the greatest corners of their bounding boxes (n x 3, int32)."""
+    least and the greatest corners of their bounding boxes (n x 3, int32).
+
+    Examples
+    --------
+    >>> labels = vdb.Grid.from_array(np.array([[[5, 0, 2, 5]]])).labels()
+    >>> labels.values.tolist(), labels.counts.tolist(), labels.low.tolist(), labels.high.tolist()
+    ([2, 5], [1, 2], [[0, 0, 2], [0, 0, 0]], [[0, 0, 2], [0, 0, 3]])
+    """
 
     values: np.ndarray
     counts: np.ndarray
     low: np.ndarray
     high: np.ndarray
+
+    def rows(self, names: "Mapping[int, Label]" = {}) -> "Iterator[LabelRow]":
+        """Yields a row for each value, with the name that `vdb.label_names` has for it, or an empty one."""
+        for value, count, (x0, y0, z0), (x1, y1, z1) in zip(*(column.tolist() for column in self)):
+            yield LabelRow(value, names[value].name if value in names else "", count, (x0, y0, z0), (x1, y1, z1))
+
+
+class LabelRow(NamedTuple):
+    """A value of active voxels, its name, how many voxels have it, and the least and the greatest corner of their bounding box."""
+
+    value: "bool | int"
+    name: str
+    voxels: int
+    low: "tuple[int, int, int]"
+    high: "tuple[int, int, int]"
 
 
 Part = Union[Rows, Cubes]

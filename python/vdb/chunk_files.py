@@ -7,14 +7,14 @@ import os
 import re
 import secrets
 import shutil
-from typing import Any, Callable, Iterable, NamedTuple, Optional, Sequence
+from typing import Any, Callable, Iterable, Mapping, NamedTuple, Optional, Sequence
 
 import numpy as np
 
 from .blocks import Labels
 from .errors import DtypeError, FormatError, MissingFileError, RangeError
 from .files import naming, replacing, synchronise
-from .forms import COORDINATE_SPAN, KINDS, Bounds, Coordinate, Value, check_bounds, check_coordinate
+from .forms import COORDINATE_SPAN, KINDS, Bounds, Coordinate, Metadata, Value, check_bounds, check_coordinate
 from .grid import Grid
 from .scene import Scene, load
 
@@ -76,11 +76,12 @@ class Form(NamedTuple):
 
 
 class Index(NamedTuple):
-    """The index of a volume: the name of the folder with the files of its chunks, and those that have a file."""
+    """The index of a volume: the name of the folder with the files of its chunks, those that have a file, and the metadata pairs."""
 
     form: Form
     written: str
     entries: "dict[Number, Entry]"
+    metadata: Metadata
 
     def path(self, folder: str, number: Number) -> str:
         """Returns the path of the file of a chunk, or an empty one if the chunk has none."""
@@ -98,12 +99,12 @@ def read_index(folder: str) -> Index:
             raise RangeError(f"the version is {found['version']!r} and not {VERSION}, or the folder {found['folder']!r} has no name of one")
         form = Form(found["kind"], found["background"], found["side"]).check()
         rows = {check_coordinate(at): Entry(int(count), check_bounds(box) if box else None) for at, count, box in found["chunks"]}
-        return Index(form, found["folder"], rows)
+        return Index(form, found["folder"], rows, Metadata(found.get("metadata")))
     except (ValueError, TypeError, KeyError) as error:
         raise ChunksFault(None, f"the index has another form: {error}", path) from error
 
 
-def write_volume(folder: str, form: Form, compute: Compute) -> None:
+def write_volume(folder: str, form: Form, metadata: "Mapping[str, str]", compute: Compute) -> None:
     """Writes a volume to a folder, the files of its chunks to a new one in it.
 
     At the end the index is replaced, and all files that it doesn't name are removed, such as temporary ones of a worker that was killed.
@@ -114,7 +115,7 @@ def write_volume(folder: str, form: Form, compute: Compute) -> None:
         synchronise(folder)
     try:
         rows = [(number, *entry) for number, entry in compute(os.path.join(folder, name)) if entry]
-        index = {"version": VERSION, **form._asdict(), "folder": name, "chunks": sorted(rows)}
+        index = {"version": VERSION, **form._asdict(), "folder": name, "chunks": sorted(rows), "metadata": dict(metadata)}
         with replacing(os.path.join(folder, INDEX)) as file:
             file.write(json.dumps(index).encode())
     finally:
@@ -180,7 +181,8 @@ def read_block(
     one path, that of the chunk's file, or an empty one if the chunk has no file."""
     ends = [(at + first, at + past - 1) for at, (first, past) in zip(low, block_info[None]["array-location"])]
     grid = read(path.item()) if path.item() else Grid(form.kind, form.background)
-    return grid.to_array([*zip(*ends)], fill)[which]
+    is_empty = any(first > last for first, last in ends)  # the one block of a volume without active voxels
+    return grid.to_array(None if is_empty else [*zip(*ends)], fill)[which]
 
 
 def change_chunk(form: Form, change: Change, halo: int, number: Number, own: str, near: Sequence[str], path: str) -> "Entry | None":

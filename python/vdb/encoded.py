@@ -23,7 +23,7 @@ EVERYWHERE = ((-COORDINATE_SPAN,) * 3, (COORDINATE_SPAN - 1,) * 3)
 class Encoded:
     """A scene of the library."""
 
-    def __init__(self, data: "bytes | None" = None) -> None:
+    def __init__(self, data: "bytes | bytearray | None" = None) -> None:
         """Makes a scene without grids, or that of the bytes of a scene file."""
         self.scene = Held(SceneHandle)
         if data is None:

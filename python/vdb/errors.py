@@ -3,7 +3,8 @@
 
     TypeError          DtypeError, KindsError
     ValueError         RangeError, TextError, LimitError, EmptyError, RootLimitError, ArrayTooLargeError, SceneTooLongError,
-                       VolumeError, FormatError and its faults
+                       VolumeError, GeometryError, DigestError, FormatError and its faults
+    IndexError         OutsideError
     KeyError           MissingError
     OverflowError      SumRangeError
     MemoryError        OutOfMemoryError
@@ -11,14 +12,15 @@
     FileNotFoundError  MissingFileError
     PermissionError    ForbiddenFileError
 
-A call that fails has changed no voxel, unless its documentation says otherwise.
+A call that fails has changed no voxel, unless its documentation says otherwise. What a call does all the same it warns of by `VdbWarning`.
 """
 from __future__ import annotations
 
 __all__ = [
-    "VdbError", "DtypeError", "RangeError", "TextError", "LimitError", "MissingError", "EmptyError", "OutOfMemoryError",
-    "RootLimitError", "SumRangeError", "KindsError", "ArrayTooLargeError", "SceneTooLongError", "VolumeError", "FileError",
-    "MissingFileError", "ForbiddenFileError", "FormatError", "MagicFault", "VersionFault", "TruncatedFault", "NameFault", "KindFault", "ValueFault",
+    "VdbError", "DtypeError", "RangeError", "OutsideError", "TextError", "LimitError", "MissingError", "EmptyError", "OutOfMemoryError",
+    "RootLimitError", "SumRangeError", "KindsError", "ArrayTooLargeError", "SceneTooLongError", "VolumeError", "GeometryError",
+    "DigestError", "VdbWarning", "FileError", "MissingFileError", "ForbiddenFileError", "FormatError", "MagicFault", "VersionFault",
+    "TruncatedFault", "NameFault", "KindFault", "ValueFault",
     "LimitFault", "MetaFault", "KeyFault", "RootLimitFault", "TagFault", "IndexFault", "BackgroundFault", "ConstantNodeFault",
     "TrailingFault", "TooLongFault", "FAULTS",
 ]  # fmt: skip
@@ -39,6 +41,10 @@ class DtypeError(VdbError, TypeError):
 
 class RangeError(VdbError, ValueError):
     """A value, a coordinate, a shape or another argument is out of range. The text names it."""
+
+
+class OutsideError(VdbError, IndexError):
+    """An index of an image is past its end, or has too many axes."""
 
 
 class TextError(VdbError, ValueError):
@@ -115,6 +121,18 @@ class VolumeError(VdbError, ValueError):
 
     def __str__(self) -> str:
         return f"{self.path}: {self.reason}" if self.path else self.reason
+
+
+class GeometryError(VdbError, ValueError):
+    """Two grids have images of different shapes, first voxels or affines, or a grid has active voxels outside its image."""
+
+
+class DigestError(VdbError, ValueError):
+    """A scene file isn't the one of which a digest was written, or the digest has another form."""
+
+
+class VdbWarning(UserWarning):
+    """A call does what it is asked for, and something of a grid isn't in the result. The text says what."""
 
 
 class FileError(VdbError, OSError):

@@ -1,15 +1,16 @@
 # SPDX-License-Identifier: Apache-2.0
-"""Files that are replaced only when all of the new content is written, and errors that name their file."""
+"""Files that are replaced only when all of the new content is written, errors that name their file, and digests beside files."""
 from __future__ import annotations
 
 import contextlib
 import errno
+import hashlib
 import os
 import secrets
 import stat
-from typing import BinaryIO, Iterator
+from typing import Any, BinaryIO, Iterator
 
-from .errors import FormatError, file_error
+from .errors import DigestError, FormatError, file_error
 
 
 @contextlib.contextmanager
@@ -71,3 +72,19 @@ def synchronise(folder: str) -> None:
             os.fsync(descriptor)
         finally:
             os.close(descriptor)
+
+
+def write_digest(path: "str | os.PathLike[str]", sha256: Any) -> None:
+    """Writes the digest of a file to PATH.sha256, as sha256sum does. Raises FileError if that can't be written."""
+    name = os.fspath(path)
+    with replacing(f"{name}.sha256") as file:
+        file.write(f"{sha256.hexdigest()}  {os.path.basename(name)}\n".encode("utf-8", "surrogateescape"))
+
+
+def check_digest(path: "str | os.PathLike[str]", data: Any) -> None:
+    """Raises DigestError if the bytes of a file don't have the digest in PATH.sha256, and FileError if that can't be read."""
+    name = os.fspath(path)
+    with naming(f"{name}.sha256"), open(f"{name}.sha256", "rb") as file:
+        told = file.read(64).decode("latin-1").lower()
+    if told != hashlib.sha256(data).hexdigest():
+        raise DigestError(f"{name}: the file isn't the one whose digest is in {name}.sha256")

@@ -5,7 +5,7 @@ from __future__ import annotations
 import re
 import struct
 from dataclasses import dataclass
-from typing import Any, Iterator, Mapping, MutableMapping, NamedTuple, Sequence, Tuple, Union
+from typing import Any, Callable, Iterator, Mapping, MutableMapping, NamedTuple, Sequence, Tuple, Union
 
 import numpy as np
 
@@ -17,6 +17,9 @@ Coordinate = Tuple[int, int, int]
 Bounds = Tuple[Coordinate, Coordinate]
 #: What NumPy makes an array of.
 Array = Any
+
+#: Called with how much of some work is done, and of all: iterations, voxels or bytes.
+Progress = Callable[[int, int], object]
 
 #: The most bytes of a file.
 MAX_FILE = 268_435_456
@@ -40,7 +43,14 @@ TEXT_FORM = re.compile(rb"[!-~]{1,64}\Z")
 
 
 class Leaf(NamedTuple):
-    """A leaf: its least corner, and the values and the states (bool) of its voxels, arrays of shape (8, 8, 8) with the axes x, y, z."""
+    """A leaf: its least corner, and the values and the states (bool) of its voxels, arrays of shape (8, 8, 8) with the axes x, y, z.
+
+    Examples
+    --------
+    >>> leaf = next(vdb.Grid.from_array(np.array([[[5, 6]]]), origin=(8, 0, 0)).leaves())
+    >>> leaf.origin, leaf.values[0, 0, :3].tolist(), int(leaf.active.sum())
+    ((8, 0, 0), [5, 6, 0], 2)
+    """
 
     origin: Coordinate
     values: np.ndarray
@@ -126,6 +136,13 @@ def narrow(numbers: np.ndarray, values: np.ndarray, dtype: np.dtype) -> None:
     if values.dtype.kind in "iu" and not np.can_cast(dtype, values.dtype, "safe"):
         fitting(numbers, values.dtype, "value")
     np.copyto(values, numbers, casting="unsafe")
+
+
+def narrowed(values: np.ndarray, dtype: np.dtype) -> np.ndarray:
+    """Returns integers in another dtype of numbers. Raises RangeError if that doesn't hold one."""
+    made = np.empty(values.shape, dtype)
+    narrow(values, made, values.dtype)
+    return made
 
 
 KINDS = {
@@ -245,6 +262,13 @@ class Metadata(MutableMapping[str, str]):
     A key has the form of a name: a letter a to z, then up to 15 of a to z, 0 to 9 and _. A text has 1 to 64 printable
     ASCII characters and no space. Setting a pair raises DtypeError or TextError if it has another form, and LimitError
     for a seventeenth pair; the pairs stay as they were then.
+
+    Examples
+    --------
+    >>> grid = vdb.Grid("i32", metadata={"unit": "mm"})
+    >>> grid.metadata["patient"] = "p7"
+    >>> grid.metadata
+    Metadata({'patient': 'p7', 'unit': 'mm'})
     """
 
     def __init__(self, pairs: Mapping[str, str] | None = None) -> None:

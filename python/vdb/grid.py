@@ -2,43 +2,31 @@
 """A grid of the engine."""
 from __future__ import annotations
 
-from ctypes import byref, c_int32, c_int64, c_uint32, c_uint64
-from typing import Any, Callable, Iterator, Mapping, NamedTuple, Sequence
+from ctypes import byref, c_int32
+from typing import Any, Mapping, Sequence, Type, TypeVar
 
 import numpy as np
 
-from .arrays import box_of, coordinates_of, from_dense, new_grid, read_box, read_voxels, write_box, write_voxels
-from .blocks import Cubes, Part
-from .edits import is_one_of, mapped, write_cubes, write_leaves
-from .encoded import EVERYWHERE, NAME, Encoded, copied, encoding_of, same_cells
+from . import images
+from .arrays import box_of, coordinates_of, from_dense, new_grid, write_box, write_voxels
+from .blocks import Cubes
+from .edits import mapped, write_cubes, write_leaves
+from .encoded import NAME, Encoded, copied, encoding_of, same_cells
+from .engine import NO_ACCESSOR, Census, Stored, box
 from .errors import DtypeError, RangeError
 from .forms import (
-    DEFAULT_LIMIT, KIND_NUMBERS, Array, Bounds, Coordinate, Leaf, Metadata, Value, check_bools, check_bounds, check_box, check_coordinate,
-    check_state, check_states, kind_of, kind_of_array,
+    DEFAULT_LIMIT, KIND_NUMBERS, Array, Coordinate, Metadata, Progress, Value, check_bools, check_box, check_coordinate, check_state,
+    check_states, kind_of, kind_of_array,
 )  # fmt: skip
-from .library import Box, CensusCounts, Coord, Count, Held
-from .reading import Active, Key, Walkable, part_of
-from .walk import leaf_rows, parts_of
+from .library import Held
+from .reading import Active, Key, part_of
 
 __all__ = ["Grid", "Census"]
 
-NO_ACCESSOR = -1
-
-#: Called with the number of iterations that are done, and of all.
-Progress = Callable[[int, int], object]
+G = TypeVar("G", bound="Grid")
 
 
-class Census(NamedTuple):
-    """The size of the smallest tree of a grid's cells: root blocks with a cell other than the background, inactive, and how many cubes
-    of 4,096, 128 and 8 voxels along each axis have cells that differ."""
-
-    roots: int
-    upper: int
-    lower: int
-    leaf: int
-
-
-class Grid(Walkable):
+class Grid(Stored):
     """A sparse grid of booleans or integers over all coordinates of 32 bits.
 
     An index is three integers or slices. They are coordinates in voxels, also negative ones; a slice includes its start and not its stop.
@@ -48,6 +36,26 @@ class Grid(Walkable):
     A call that fails has changed no voxel, other than `write_many` and a write of arrays to a box. It raises OutOfMemoryError if an allocation
     fails, RootLimitError if the grid would need more root blocks than its limit, and DtypeError or RangeError for wrong arguments.
     Threads may call a grid at the same time; one of them goes on, and the others wait.
+
+    What a file says of its image stays with the grid and with every grid that is made of it (vdb.images). Two grids of different images
+    don't combine, which is a GeometryError, unless `ignore_geometry` is True. If only one has an image, the result has it.
+
+    Examples
+    --------
+    >>> labels = np.zeros((9, 9, 9), np.uint8)
+    >>> labels[2:5, 2:5, 2:5] = 3
+    >>> grid = vdb.Grid.from_array(labels)
+    >>> grid
+    <Grid i32, background 0, 27 active voxels in (2, 2, 2) to (4, 4, 4)>
+    >>> grid[4, 2:6, 2].tolist(), grid.active[5, 2, 2]
+    ([3, 3, 3, 0], False)
+    >>> grid[100, 0, -5] = 7
+    >>> grid.labels().values.tolist(), grid.labels().counts.tolist()
+    ([3, 7], [27, 1])
+    >>> margin = grid.select(3)
+    >>> margin.dilate(1)
+    >>> (margin - grid).count
+    54
     """
 
     def __init__(
@@ -68,77 +76,72 @@ class Grid(Walkable):
         self._held = new_grid(self._kind, background, limit)
 
     @classmethod
-    def _of(cls, held: Held, metadata: "Mapping[str, str] | None" = None) -> "Grid":
+    def _of(cls: "Type[G]", held: Held, metadata: "Mapping[str, str] | None" = None) -> "G":
         """Returns the grid of a handle, which nothing else may use from then on."""
         made, number = cls.__new__(cls), c_int32()
         held.call("kind", byref(number))
         made._held, made._kind, made._metadata = held, KIND_NUMBERS[number.value], Metadata(metadata)
         return made
 
-    def copy(self) -> "Grid":
+    def copy(self: G) -> G:
         """Returns a second grid with the same cells, limit and metadata."""
-        return Grid._of(copied(self._held), self._metadata)
+        return self._of(copied(self._held), self._metadata)
 
     __copy__ = copy
 
-    def __deepcopy__(self, _memo: object) -> "Grid":
+    def __deepcopy__(self: G, _memo: object) -> G:
         return self.copy()
+
+    def _handle(self) -> Held:
+        return self._held
+
+    def _swap(self, held: Held) -> None:
+        """Takes the cells of a handle, and leaves the former ones there."""
+        with self._held.lock:
+            self._held.handle, held.handle = held.handle, self._held.handle
 
     def __reduce__(self) -> tuple:
         """Pickles the grid as a scene file. Raises SceneTooLongError above 268,435,456 bytes."""
-        return _unpickled, (encoding_of({NAME: (self._held, self._metadata)}).tobytes(),)
+        return _unpickled, (encoding_of({NAME: (self._held, self._metadata)}).tobytes(), type(self))
 
-    def __eq__(self, other: object) -> bool:
-        """Returns whether the other grid has the same type, background and cells. Limits and metadata may differ."""
+    def __eq__(self, other: object) -> Any:
+        """Returns whether the other grid has the same type, background and cells. Limits and metadata may differ. `grid == 3` is the mask
+        of the active voxels that are 3, and so are `!=`, `<`, `<=`, `>` and `>=` with a number."""
         if not isinstance(other, Grid):
-            return NotImplemented
+            return super().__eq__(other)
         if self is other:
             return True
         if (self._kind, self.background, self.count) != (other._kind, other.background, other.count):
             return False
         return same_cells(self._held, other._held, 8 + 2 + 1 + self._kind.size + 4)
 
-    __hash__ = None  # type: ignore[assignment]
-
     @classmethod
     def from_array(
-        cls,
+        cls: "Type[G]",
         values: Array,
         active: "Array | None" = None,
         origin: Sequence[int] = (0, 0, 0),
         background: "Value | None" = None,
         limit: int = DEFAULT_LIMIT,
         metadata: "Mapping[str, str] | None" = None,
-    ) -> "Grid":
+        progress: "Progress | None" = None,
+    ) -> "G":
         """Makes a grid from a dense array with the axes x, y, z.
 
         `values` has the dtype bool (a bool grid), an integer of at most 32 bits signed or 16 bits unsigned (i32), or int64 or uint32
         (i64). `active` is a bool array of the same shape; without it, each voxel whose value differs from the background is active.
-        `origin` is the coordinate of `values[0, 0, 0]`. Outside the array voxels are the background, inactive.
+        `origin` is the coordinate of `values[0, 0, 0]`. Outside the array voxels are the background, inactive. `progress` is called with the
+        number of voxels that are done, and of all.
 
         Raises DtypeError for another dtype, and RootLimitError if the grid needs more root blocks than `limit`. Raises RangeError for
         another shape, for coordinates outside 32 bits, or for a wrong background or limit.
         """
         values = np.asarray(values)
-        made = cls(kind_of_array(values), background, limit, metadata)
+        made = cls._of(new_grid(kind_of_array(values), background, limit), metadata)
         low = check_box(origin, values.shape)
         states = None if active is None else check_states(active, values.shape)
-        from_dense(made._held, low, values, states, made.background)
+        from_dense(made._held, low, values, states, made.background, progress)
         return made
-
-    @property
-    def background(self) -> Value:
-        """The value of every voxel that nothing was written to."""
-        value = c_int64()
-        self._held.call("background", byref(value))
-        return self._value(value.value)
-
-    @property
-    def limit(self) -> int:
-        """The root limit: how many root blocks may hold anything but the inactive background."""
-        limit = c_uint32()
-        self._held.call("limit", byref(limit))
-        return limit.value
 
     @property
     def metadata(self) -> Metadata:
@@ -154,14 +157,6 @@ class Grid(Walkable):
         """The states, True for an active voxel, by the same indices as the values. They can be set."""
         return GridActive(self)
 
-    def _cell(self, at: Coordinate) -> "tuple[Value, bool]":
-        value, on = c_int64(), c_int32()
-        self._held.call("get", *at, byref(value), byref(on))
-        return self._value(value.value), bool(on.value)
-
-    def _read(self, low: Coordinate, values: "np.ndarray | None", active: "np.ndarray | None", fill: "Value | None") -> None:
-        read_box(self._held, self._kind, low, values, active, fill)
-
     def __setitem__(self, key: Key, values: Array) -> None:
         """Sets the voxel at x, y, z, or the voxels of a box, and activates them.
 
@@ -173,10 +168,14 @@ class Grid(Walkable):
         if np.ndim(values) == 0:
             value = self._kind.check(values.item() if isinstance(values, np.ndarray) else values)
             if part.size:
-                self._held.call("fill", box_of(*part.bounds), value, 1)
+                self._held.call("fill", box_of(*part.bounds), *self._pair(value, True))
         else:
             made = spread(self._kind.array(values), part.shown).reshape(part.shape)
-            write_box(self._held, part.low, made, np.broadcast_to(np.True_, part.shape))
+            write_box(self._held, part.low, *self._pair(made, np.broadcast_to(np.True_, part.shape)))
+
+    def _pair(self, values: Any, active: Any) -> "tuple[Any, Any]":
+        """Returns what is written for values and states, each one or an array."""
+        return values, active
 
     def set_value(self, at: Coordinate, value: Value) -> None:
         """Sets the value of a voxel and keeps its state."""
@@ -186,10 +185,6 @@ class Grid(Walkable):
         """Sets the state of a voxel and keeps its value."""
         self._held.call("set_active", NO_ACCESSOR, *check_coordinate(at), check_state(active))
 
-    def get_many(self, at: Array) -> "tuple[np.ndarray, np.ndarray]":
-        """Returns the values and the states (bool) of voxels, arrays of length n. `at` has their coordinates, integers of shape (n, 3)."""
-        return read_voxels(self._held, self._kind, at)
-
     def write_many(self, at: Array, values: Array, active: Array = True) -> None:
         """Sets the values and the states of voxels, one after another. `at` has their coordinates, integers of shape (n, 3); `values` and
         `active` are one for all voxels, or arrays of length n.
@@ -198,7 +193,7 @@ class Grid(Walkable):
         before the failed one are set.
         """
         at = coordinates_of(at)
-        write_voxels(self._held, at, spread(self._kind.array(values), (len(at),)), check_states(active, (len(at),)))
+        write_voxels(self._held, at, *self._pair(spread(self._kind.array(values), (len(at),)), check_states(active, (len(at),))))
 
     def write_box(self, origin: Coordinate, values: Array, active: Array = True) -> None:
         """Sets the values and the states of a box of voxels: that at `origin` to `values[0, 0, 0]`, and so on along x, y and z. `active`
@@ -208,15 +203,15 @@ class Grid(Walkable):
         the shapes differ. After OutOfMemoryError or RootLimitError the voxels before the failed one are set, by x, then y, then z.
         """
         values = self._kind.array(values)
-        write_box(self._held, check_box(origin, values.shape), values, check_states(active, values.shape))
+        write_box(self._held, check_box(origin, values.shape), *self._pair(values, check_states(active, values.shape)))
 
     def fill(self, bounds: Sequence[Sequence[int]], value: Value, active: bool = True) -> None:
         """Sets the value and the state of each voxel of a box."""
-        self._held.call("fill", _box(bounds), self._kind.check(value), check_state(active))
+        self._held.call("fill", box(bounds), *self._pair(self._kind.check(value), check_state(active)))
 
     def clip(self, bounds: Sequence[Sequence[int]]) -> None:
         """Sets each voxel outside a box to the background, inactive."""
-        self._held.call("clip", _box(bounds))
+        self._held.call("clip", box(bounds))
 
     def prune(self) -> None:
         """Makes the tree as small as its cells allow. No voxel changes."""
@@ -225,57 +220,42 @@ class Grid(Walkable):
     def voxelise(self, bounds: Sequence[Sequence[int]]) -> None:
         """Puts each active voxel of a box into a leaf. No voxel changes. It passes an inactive tile at once, so the box may be large. An
         active tile takes memory: a leaf for each cube of 8 voxels."""
-        self._held.call("voxelise", _box(bounds))
+        self._held.call("voxelise", box(bounds))
 
-    def dilate(self, iterations: int = 1, progress: "Progress | None" = None) -> None:
-        """Activates, in each of 1 to 16 iterations, every voxel that has an active face neighbour. No value changes.
+    def dilate(self, iterations: int = 1, progress: "Progress | None" = None, value: "Value | None" = None) -> None:
+        """Activates, in each of 1 to 16 iterations, every voxel that has an active face neighbour. No value changes, unless the voxels that
+        it activates are to have a `value`.
 
         After each iteration it calls `progress(done, iterations)`, if that is given. The iterations are made on a copy of the grid: if one is
         interrupted by Ctrl-C or an exception of `progress`, nothing changes.
         """
-        self._iterate("dilate", iterations, progress)
+        self._iterate("dilate", iterations, progress, value)
 
     def erode(self, iterations: int = 1, progress: "Progress | None" = None) -> None:
         """Deactivates, in each of 1 to 16 iterations, every voxel that has an inactive face neighbour. No value changes. `progress` and an
         interruption are as for `dilate`."""
         self._iterate("erode", iterations, progress)
 
-    def _iterate(self, name: str, iterations: int, progress: "Progress | None") -> None:
-        """Makes a call for each iteration on a copy, which then becomes the grid."""
+    def _iterate(self, name: str, iterations: int, progress: "Progress | None", value: "Value | None" = None) -> None:
+        """Makes a call for each iteration on a copy, which then becomes the grid. What it activates gets the value, if one is given."""
         count, made = _iterations(iterations), Held()
+        number = None if value is None else self._kind.check(value)
         with self._held.lock:
             self._held.call_with("copy", made)
             for done in range(1, count + 1):
                 made.call(name, 1)
                 if progress:
                     progress(done, count)
-            self._held.handle, made.handle = made.handle, self._held.handle
+            if number is not None:
+                grown, valued = copied(made), new_grid(self._kind, number, self.limit)
+                grown.call_with("subtract", self._held)
+                valued.call_with("unite", grown)
+                made.call_with("replace", valued)
+            self._swap(self._kept(made))
 
-    def select(self, values: Array) -> "Grid":
-        """Returns a bool grid that is active and True where this grid is active and has the value, or one of some values."""
-        wanted = np.unique(self._kind.array(values))
-        made = Grid("bool", limit=self.limit)
-        is_most = None
-        for part in self._parts():
-            chosen = is_one_of(part.values, wanted)
-            active = np.ones(chosen.shape, np.bool_) if isinstance(part, Cubes) else part.active
-            if is_most is None:  # then the other voxels are written, and taken away from all
-                is_most = 2 * np.count_nonzero(chosen & active) > np.count_nonzero(active)
-            chosen = active & (chosen != is_most)
-            if isinstance(part, Cubes):
-                write_cubes(made._held, Cubes(part.low[chosen], part.side, np.ones(np.count_nonzero(chosen), np.int64)))
-            else:
-                some = chosen.any(axis=1)
-                written = chosen[some]
-                write_leaves(made._held, part.origins[some], written, written)
-        if is_most:
-            whole, others = Grid("bool", True, self.limit), made
-            whole.unite(self)
-            whole.subtract(others)
-            made = Grid("bool", limit=self.limit)
-            made.replace(whole)
-        made.prune()
-        return made
+    def _kept(self, held: Held) -> Held:
+        """Returns a handle whose states a call changed, with values as this class keeps them."""
+        return held
 
     def relabel(self, pairs: "Mapping[Any, Any]") -> "Grid":
         """Returns a copy in which each active voxel whose value is a key of `pairs` has the value of that key. All change at once, so
@@ -283,7 +263,7 @@ class Grid(Walkable):
         old, new = self._kind.array(list(pairs), "key").ravel(), self._kind.array(list(pairs.values())).ravel()
         order = np.argsort(old)
         old, new = old[order], new[order]
-        made = self.copy()
+        made = Grid._of(copied(self._held), self._metadata)
         for part in self._parts():
             after = mapped(part.values, old, new)
             if isinstance(part, Cubes):
@@ -296,11 +276,12 @@ class Grid(Walkable):
         made.prune()
         return made
 
-    def where(self, mask: "Grid") -> "Grid":
+    def where(self: G, mask: "Grid", *, ignore_geometry: bool = False) -> G:
         """Returns a grid with the active voxels of this grid that are active in the mask too, which may be of another type. All others are
         the background, inactive. Limit and metadata are those of this grid."""
-        made = Grid(self.kind, self.background, self.limit, self._metadata)
-        made.replace(self & mask)
+        made, chosen = self._of(new_grid(self._kind, self.background, self.limit), self._metadata), self.copy()
+        chosen.intersect(mask, ignore_geometry=ignore_geometry)
+        made.replace(chosen)
         return made
 
     def dilate_label(self, value: Value, iterations: int = 1) -> None:
@@ -308,138 +289,90 @@ class Grid(Walkable):
         that is active becomes active and gets the label. Active voxels of other values stay, and block it."""
         count, label = _iterations(iterations), self._kind.check(value)
         with self._held.lock:
-            region = self.select(label)
-            others = self - region
+            region, grown = self.select(label)._held, new_grid(self._kind, label, self.limit)
+            others = copied(self._held)
+            others.call_with("subtract", region)
             for _ in range(count):
-                region._held.call("dilate", 1)
-                region.subtract(others)
-            grown = Grid(self.kind, label, self.limit)
-            grown.unite(region)
-            self.replace(grown)
+                region.call("dilate", 1)
+                region.call_with("subtract", others)
+            grown.call_with("unite", region)
+            self._held.call_with("replace", grown)
 
-    def unite(self, other: "Grid") -> None:
+    def unite(self, other: "Grid", *, ignore_geometry: bool = False) -> None:
         """Activates each voxel that is active in the other grid. No value changes, and the types may differ."""
-        self._combine("unite", other)
+        self._combine("unite", other, ignore_geometry)
 
-    def subtract(self, other: "Grid") -> None:
+    def subtract(self, other: "Grid", *, ignore_geometry: bool = False) -> None:
         """Deactivates each voxel that is active in the other grid. No value changes, and the types may differ."""
-        self._combine("subtract", other)
+        self._combine("subtract", other, ignore_geometry)
 
-    def intersect(self, other: "Grid") -> None:
+    def intersect(self, other: "Grid", *, ignore_geometry: bool = False) -> None:
         """Deactivates each voxel that is inactive in the other grid. No value changes, and the types may differ."""
-        self._combine("intersect", other)
+        self._combine("intersect", other, ignore_geometry)
 
-    def maximum(self, other: "Grid") -> None:
+    def maximum(self, other: "Grid", *, ignore_geometry: bool = False) -> None:
         """Sets each voxel and the background to the greater of its two values. A voxel that is active in either grid is active then.
         Raises KindsError if the types differ."""
-        self._combine("maximum", other)
+        self._combine("maximum", other, ignore_geometry)
 
-    def minimum(self, other: "Grid") -> None:
+    def minimum(self, other: "Grid", *, ignore_geometry: bool = False) -> None:
         """Sets each voxel and the background to the lesser of its two values. A voxel that is active in either grid is active then.
         Raises KindsError if the types differ."""
-        self._combine("minimum", other)
+        self._combine("minimum", other, ignore_geometry)
 
-    def sum(self, other: "Grid") -> None:
+    def sum(self, other: "Grid", *, ignore_geometry: bool = False) -> None:
         """Sets each voxel and the background to the sum of its two values. A voxel that is active in either grid is active then. Raises
         SumRangeError if a sum is outside the type, and KindsError for booleans or if the types differ."""
-        self._combine("sum", other)
+        self._combine("sum", other, ignore_geometry)
 
-    def replace(self, other: "Grid") -> None:
+    def replace(self, other: "Grid", *, ignore_geometry: bool = False) -> None:
         """Copies the value and the state of each voxel that is active in the other grid. Raises KindsError if the types differ."""
-        self._combine("replace", other)
+        self._combine("replace", other, ignore_geometry)
 
-    def __ior__(self, other: "Grid") -> "Grid":
+    def __ior__(self: G, other: "Grid") -> G:
         self.unite(other)
         return self
 
-    def __iand__(self, other: "Grid") -> "Grid":
+    def __iand__(self: G, other: "Grid") -> G:
         self.intersect(other)
         return self
 
-    def __isub__(self, other: "Grid") -> "Grid":
+    def __isub__(self: G, other: "Grid") -> G:
         self.subtract(other)
         return self
 
-    def __or__(self, other: "Grid") -> "Grid":
+    def __ixor__(self: G, other: "Grid") -> G:
+        self._swap((self ^ other)._held)
+        return self
+
+    def __or__(self: G, other: "Grid") -> G:
         """Returns a copy that is also active where the other grid is."""
         return self.copy().__ior__(other)
 
-    def __and__(self, other: "Grid") -> "Grid":
+    def __and__(self: G, other: "Grid") -> G:
         """Returns a copy that is active only where the other grid is too."""
         return self.copy().__iand__(other)
 
-    def __sub__(self, other: "Grid") -> "Grid":
+    def __sub__(self: G, other: "Grid") -> G:
         """Returns a copy that is inactive where the other grid is active."""
         return self.copy().__isub__(other)
 
-    @property
-    def count(self) -> int:
-        """How many voxels are active, those of tiles too."""
-        count = Count()
-        self._held.call("count", byref(count))
-        return count.high << 64 | count.low
+    def __xor__(self: G, other: "Grid") -> G:
+        """Returns a copy that is active where one of the two grids is, and not both."""
+        return (self | other).__isub__(self & other)
 
-    def count_in(self, bounds: Sequence[Sequence[int]]) -> int:
-        """Returns how many voxels of a box are active."""
-        count = Count()
-        self._held.call("count_in", _box(bounds), byref(count))
-        return count.high << 64 | count.low
+    def __invert__(self) -> "Grid":
+        """Raises DtypeError: the voxels outside a set are those of a mask in an image."""
+        raise DtypeError("~ is of masks: ~vdb.Mask(grid) in an image, or vdb.Mask(grid).complement(bounds)")
 
-    @property
-    def bounds(self) -> "Bounds | None":
-        """The bounding box of the active voxels, its least and greatest coordinates, or None if no voxel is active."""
-        box, found = Box(), c_int32()
-        self._held.call("bounds", byref(box), byref(found))
-        return (_tuple(box.min), _tuple(box.max)) if found.value else None
-
-    def census(self) -> Census:
-        """Returns the size of the smallest tree of the grid's cells."""
-        census = CensusCounts()
-        self._held.call("census", byref(census))
-        return Census(census.roots, census.upper, census.lower, census.leaf)
-
-    @property
-    def leaf_count(self) -> int:
-        """How many leaf extents, cubes of 8 voxels along each axis, have voxels that differ."""
-        return self.census().leaf
-
-    @property
-    def tree_leaf_count(self) -> int:
-        """How many leaves the tree has. It depends on how the voxels were written; after `prune` it is `leaf_count`."""
-        count = c_uint64()
-        self._held.call("leaf_count", byref(count))
-        return count.value
-
-    def leaves(self) -> "Iterator[Leaf]":
-        """Yields the leaf extents whose voxels differ, in block order."""
-        for origins, numbers, states in leaf_rows(self._held):
-            differ = (numbers != numbers[:, :1]).any(axis=1) | (states != states[:, :1]).any(axis=1)
-            values = numbers.astype(self.dtype).reshape(-1, 8, 8, 8)
-            for leaf in np.flatnonzero(differ).tolist():
-                x, y, z = origins[leaf].tolist()
-                yield Leaf((x, y, z), values[leaf], states[leaf].reshape(8, 8, 8))
-
-    def _parts(self) -> Iterator[Part]:
-        return parts_of(self._held)
-
-    def voxels(self, bounds: Sequence[Sequence[int]] = EVERYWHERE) -> "Iterator[tuple[Coordinate, Value]]":
-        """Yields the active voxels of a box in block order, each with its value."""
-        box, at, value, found = _box(bounds), Coord(), c_int64(), c_int32()
-        self._held.call("first_active", box, byref(at), byref(value), byref(found))
-        while found.value:
-            yield _tuple(at), self._value(value.value)
-            self._held.call("next_active", box, byref(at), byref(value), byref(found))
-
-    def _value(self, value: int) -> Value:
-        """Returns a value of the library as one of the grid's type."""
-        return bool(value) if self._kind.number == 0 else value
-
-    def _combine(self, name: str, other: "Grid") -> None:
-        """Makes a call with two handles, which must differ."""
+    def _combine(self, name: str, other: "Grid", ignore_geometry: bool) -> None:
+        """Makes a call with two handles, which must differ. Raises GeometryError if both grids have images, which differ."""
         if not isinstance(other, Grid):
             raise DtypeError(f"the other grid is a Grid, not {type(other).__name__}")
+        made = self._metadata if ignore_geometry else images.agreed(self._metadata, other._metadata, self.dtype)
         second = other.copy() if other is self else other
         self._held.call_with(name, second._held)
+        self._metadata = made
 
 
 class GridActive(Active):
@@ -462,20 +395,11 @@ class GridActive(Active):
             (grid.unite if states else grid.subtract)(mask)
 
 
-def _unpickled(data: bytes) -> Grid:
+def _unpickled(data: bytes, form: "Type[Grid]" = Grid) -> Grid:
     """Returns the grid that `Grid.__reduce__` encoded."""
     scene = Encoded(data)
     pairs = scene.metadata(NAME)
-    return Grid._of(scene.take(NAME), pairs)
-
-
-def _box(bounds: Sequence[Sequence[int]]) -> Box:
-    """Returns bounds as a box of the library. Raises DtypeError or RangeError if they are none."""
-    return box_of(*check_bounds(bounds))
-
-
-def _tuple(at: Coord) -> Coordinate:
-    return at.x, at.y, at.z
+    return form._of(scene.take(NAME), pairs)
 
 
 def spread(values: np.ndarray, shape: "tuple[int, ...]") -> np.ndarray:

@@ -17,6 +17,13 @@ class Grids(MutableMapping[str, G], Generic[G]):
     A name is a letter a to z, then up to 15 of a to z, 0 to 9 and _. The scene holds the grids themselves and not copies. Setting a grid
     raises TextError or DtypeError for another name, DtypeError for anything but a grid of the scene's class, and LimitError for a 65th
     grid. The scene stays as it was then. A name that the scene doesn't have is a MissingError, which is a KeyError.
+
+    Examples
+    --------
+    >>> scene = vdb.Scene({"organ": vdb.Grid("bool")})
+    >>> scene["margin"] = vdb.Grid("i32")
+    >>> list(scene), vdb.loads(scene.to_bytes()) == scene
+    (['margin', 'organ'], True)
     """
 
     _form: Type[G]

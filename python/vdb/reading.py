@@ -2,6 +2,7 @@
 """What the grids of the engine, its views and the grids of scene files share: reading by slices and as dense arrays."""
 from __future__ import annotations
 
+import html
 import math
 from typing import Any, Callable, Iterator, NamedTuple, Optional, Sequence, Union
 
@@ -10,10 +11,15 @@ import numpy as np
 from . import blocks
 from .blocks import Boxes, Labels
 from .errors import ArrayTooLargeError, DtypeError, RangeError
-from .forms import COORDINATE_SPAN, Bounds, Coordinate, Kind, Metadata, Value, check_bounds
+from .forms import COORDINATE_SPAN, Bounds, Coordinate, Kind, Metadata, Progress, Value, check_bounds
+from .image_view import ImageView
+from .manners import Voxels
 
 #: The most bytes of the dense arrays that a grid makes unless the caller allows more.
 MAX_BYTES = 2**31
+
+#: How many voxels are read between two reports of progress, about.
+SLAB = 2**24
 
 #: An index of a grid: three integers or slices, or `...`.
 Key = Any
@@ -79,7 +85,7 @@ def check_end(at: object, most: int) -> int:
     return int(at)
 
 
-class Readable:
+class Readable(Voxels):
     """Reads the values and the states of a grid as NumPy does.
 
     An index is three integers or slices. They are coordinates in voxels, also negative ones; a slice includes its start and not its stop.
@@ -129,6 +135,12 @@ class Readable:
         return self._metadata
 
     @property
+    def image(self) -> ImageView:
+        """The grid's image as an array of the file's shape and dtype, which is read part by part. Raises RangeError if the grid has none:
+        `vdb.ImageView(grid, bounds)` shows a box."""
+        return ImageView(self)
+
+    @property
     def active(self) -> "Active":
         """The states, True for an active voxel, by the same indices as the values."""
         return Active(self)
@@ -154,13 +166,15 @@ class Readable:
         max_bytes: int = MAX_BYTES,
         out: "Out | None" = None,
         dtype: "Any" = None,
+        progress: "Progress | None" = None,
     ) -> "tuple[np.ndarray, np.ndarray]":
         """Returns dense arrays of values and states (bool) of a box, with the axes x, y, z.
 
         `bounds` are the least and greatest coordinates in voxels, both in the box: ((x0, y0, z0), (x1, y1, z1)). Without them it is the
         bounding box of the active voxels; if no voxel is active, both arrays have the shape (0, 0, 0). With `fill`, inactive voxels have
         that value in place of their own. `out` is an array for the values, or a pair for values and states, each of which may be None;
-        what is given is filled and returned. `dtype` is that of the values, if it isn't that of the grid or of `out`.
+        what is given is filled and returned. `dtype` is that of the values, if it isn't that of the grid or of `out`. `progress` is called
+        with the number of voxels that are read, and of all.
 
         Raises ArrayTooLargeError, before anything is allocated, if the new arrays have more than `max_bytes` bytes. Raises RangeError if
         the dtype doesn't hold a value, which is named, and DtypeError or RangeError for other wrong arguments. After an error `out` may
@@ -177,8 +191,12 @@ class Readable:
         voxels = math.prod(shape)
         check_bytes(shape, voxels * ((values is None) * form.itemsize + (active is None)), max_bytes)
         values, active = room(values, shape, form, "values"), room(active, shape, np.dtype(np.bool_), "states")
-        if voxels:
-            self._read(low, values, active, fill)
+        step = max(1, SLAB // max(1, shape[1] * shape[2]) // 8) * 8 if progress else max(1, shape[0])
+        for first in range(0, shape[0] if voxels else 0, step):
+            part = slice(first, first + step)
+            self._read((low[0] + first, low[1], low[2]), values[part], active[part], fill)
+            if progress:
+                progress(min(first + step, shape[0]) * shape[1] * shape[2], voxels)
         return values, active
 
     def _form(self, dtype: Any) -> np.dtype:
@@ -200,6 +218,17 @@ class Readable:
     def __repr__(self) -> str:
         place = " in {} to {}".format(*self.bounds) if self.bounds else ""
         return f"<{type(self).__name__} {self.kind}, background {self.background}, {self.count:,} active voxels{place}>"
+
+    def _repr_html_(self) -> str:
+        """Returns the text of `repr`, and up to 16 x 16 voxels in the middle of the bounding box, for notebooks."""
+        made = f"<p>{html.escape(repr(self)[1:-1])}</p>"
+        if not self.bounds:
+            return made
+        middle = [(low + high) // 2 for low, high in zip(*self.bounds)]
+        x, y = (max(low, at - 7) for low, at in zip(self.bounds[0][:2], middle))
+        past = [min(high, at + 8) + 1 for high, at in zip(self.bounds[1], middle)]
+        text = np.array2string(self[x : past[0], y : past[1], middle[2]], max_line_width=400)
+        return f"{made}<p>x from {x} down, y from {y} to the right, z {middle[2]}:</p><pre>{text}</pre>"
 
 
 class Walkable(Readable):

@@ -2,17 +2,21 @@
 """A scene of the engine, which is the content of a file: grids by name."""
 from __future__ import annotations
 
+import hashlib
 import os
 
 import numpy as np
 
 from .encoded import Encoded, apart, encoding_of
-from .files import naming, replacing
-from .forms import MAX_FILE
+from .files import check_digest, naming, replacing, write_digest
+from .forms import MAX_FILE, Progress
 from .grid import Grid
 from .grids import Grids
 
 __all__ = ["Scene", "load", "loads"]
+
+#: How many bytes of a file are read or written at a time.
+PIECE = 2**24
 
 
 class Scene(Grids[Grid]):
@@ -24,32 +28,62 @@ class Scene(Grids[Grid]):
         has more than 268,435,456 bytes."""
         return self._encoding().tobytes()
 
-    def save(self, path: "str | os.PathLike[str]") -> None:
+    def save(self, path: "str | os.PathLike[str]", progress: "Progress | None" = None, *, digest: bool = False) -> None:
         """Writes the encoding of the scene to a file.
 
-        The bytes go to a temporary file in the same folder, which then takes the place of `path`. Raises SceneTooLongError if there are
-        more than 268,435,456, and FileError if the file can't be written; an existing file stays as it was then.
+        The bytes go to a temporary file in the same folder, which then takes the place of `path`. `progress` is called with the number of
+        bytes written so far and that of all. With `digest` their SHA-256 is written to PATH.sha256, in the form of sha256sum. Raises SceneTooLongError if there are more than 268,435,456, and FileError if the file
+        can't be written; an existing file stays as it was then.
         """
         encoding = self._encoding()
         with replacing(path) as file:
-            file.write(encoding.data)
+            for first in range(0, len(encoding), PIECE):
+                done = file.write(encoding.data[first : first + PIECE])
+                if progress:
+                    progress(first + done, len(encoding))
+        if digest:
+            write_digest(path, hashlib.sha256(encoding.data))
 
     def _encoding(self) -> np.ndarray:
         """Returns the bytes of the encoding (uint8)."""
         return encoding_of({name.encode(): (grid._held, grid.metadata) for name, grid in self.items()})
 
 
-def load(path: "str | os.PathLike[str]") -> Scene:
-    """Reads a scene file of version 1 or 2. Raises FormatError, with the first fault of docs/FORMAT.md, and FileError if the file can't be
-    opened or read."""
+def load(path: "str | os.PathLike[str]", progress: "Progress | None" = None, *, digest: bool = False) -> Scene:
+    """Reads a scene file of version 1 or 2. With `digest` its bytes are compared with PATH.sha256.
+
+    `progress` is called with the number of bytes read so far and the size of the file. The engine then decodes all of them in one call.
+
+    Raises FormatError, with the first fault of docs/FORMAT.md, FileError if a file can't be opened or read, and DigestError if the bytes are
+    others.
+
+    Examples
+    --------
+    >>> vdb.Scene({"a": vdb.Grid("i32")}).save("a.vdbs")
+    >>> vdb.load("a.vdbs")
+    Scene({'a': <Grid i32, background 0, 0 active voxels>})
+    """
+    data = bytearray()
+    with naming(path), open(path, "rb") as file:
+        size = os.fstat(file.fileno()).st_size
+        while piece := file.read(min(PIECE, MAX_FILE + 1 - len(data))):
+            data += piece
+            if progress:
+                progress(len(data), size)
+    if digest:
+        check_digest(path, data)
     with naming(path):
-        with open(path, "rb") as file:
-            data = file.read(MAX_FILE + 1)
         return loads(data)
 
 
-def loads(data: bytes) -> Scene:
-    """Reads a scene from the bytes of a file. Raises FormatError with the first fault."""
+def loads(data: "bytes | bytearray") -> Scene:
+    """Reads a scene from the bytes of a file. Raises FormatError with the first fault.
+
+    Examples
+    --------
+    >>> vdb.loads(vdb.Scene().to_bytes())
+    Scene({})
+    """
     scene, encoded = Scene(), apart(lambda: Encoded(data))
     for name in encoded.names():
         pairs = encoded.metadata(name)

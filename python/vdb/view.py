@@ -3,35 +3,42 @@
 from __future__ import annotations
 
 import threading
-from ctypes import byref, c_int32, c_int64
+from ctypes import byref
 
-import numpy as np
-
-from .arrays import read_box, read_voxels
-from .forms import Array, Bounds, Coordinate, Metadata, Value
+from .engine import Stored
+from .errors import DtypeError
+from .forms import Metadata
 from .grid import Grid
 from .library import LIBRARY, Held, ViewHandle
-from .reading import Readable
 
 __all__ = ["View"]
 
 
-class View(Readable):
+class View(Stored):
     """A grid as it was when the view was made. Threads read it at the same time without waiting for each other.
 
-    It needs memory for a copy of the grid. Its indices and arrays are those of `Grid`.
+    It needs memory for a copy of the grid. Its indices, arrays and reports are those of `Grid`.
+
+    Examples
+    --------
+    >>> grid = vdb.Grid.from_array(np.ones((2, 2, 2), np.int32))
+    >>> view = vdb.View(grid)
+    >>> grid[0, 0, 0] = 9
+    >>> view[0, 0, 0], view.count, view.copy()[0, 0, 0]
+    (1, 8, 1)
     """
 
     def __init__(self, grid: Grid) -> None:
         held, self._first, self._own = Held(), Held(ViewHandle), threading.local()
-        with grid._held.lock:
-            grid._held.call_with("copy", held)
-            self._background, self._bounds, self._count = grid.background, grid.bounds, grid.count
+        grid._held.call_with("copy", held)
         self._kind, self._metadata = grid._kind, Metadata(grid.metadata)
         LIBRARY.vdb_view_new(byref(held.handle), byref(self._first.handle))
 
+    def __reduce__(self) -> tuple:
+        raise DtypeError("a View isn't pickled, since it belongs to the threads of one process: pickle view.copy()")
+
     @property
-    def _held(self) -> Held:
+    def _held(self) -> Held:  # type: ignore[override]
         """The thread's own handle of the view."""
         if not hasattr(self._own, "held"):
             held = Held(ViewHandle)
@@ -39,35 +46,11 @@ class View(Readable):
             self._own.held = held
         return self._own.held
 
-    def copy(self) -> Grid:
-        """Returns a grid with the cells of the view, and a copy of its metadata."""
+    def _handle(self) -> Held:
         held = Held()
         self._held.call_with("copy", held)
-        return Grid._of(held, self._metadata)
+        return held
 
-    @property
-    def background(self) -> Value:
-        """The value of every voxel that nothing was written to."""
-        return self._background
-
-    @property
-    def bounds(self) -> "Bounds | None":
-        """The bounding box of the active voxels, its least and greatest coordinates, or None if no voxel is active."""
-        return self._bounds
-
-    @property
-    def count(self) -> int:
-        """How many voxels are active, those of tiles too."""
-        return self._count
-
-    def get_many(self, at: Array) -> "tuple[np.ndarray, np.ndarray]":
-        """Returns the values and the states (bool) of voxels, as `Grid.get_many` does."""
-        return read_voxels(self._held, self._kind, at)
-
-    def _cell(self, at: Coordinate) -> "tuple[Value, bool]":
-        value, on = c_int64(), c_int32()
-        self._held.call("get", *at, byref(value), byref(on))
-        return (bool(value.value) if self.kind == "bool" else value.value), bool(on.value)
-
-    def _read(self, low: Coordinate, values: "np.ndarray | None", active: "np.ndarray | None", fill: "Value | None") -> None:
-        read_box(self._held, self._kind, low, values, active, fill)
+    def copy(self) -> Grid:
+        """Returns a grid with the cells of the view, and a copy of its metadata."""
+        return Grid._of(self._handle(), self._metadata)

@@ -7,8 +7,9 @@ from typing import Iterator, Union
 
 import numpy as np
 
-from .arrays import ACCESSOR, box_of, pointers
+from .arrays import box_of, read_voxels
 from .blocks import PARTS, Cubes, Rows
+from .forms import KINDS
 from .library import COORD, I64, U64, Box, CensusCounts, Coord, Count, Held
 
 #: How many leaves cross at a time.
@@ -90,10 +91,7 @@ def count_of(held: Held, low: "np.ndarray | None" = None, side: int = 0) -> int:
 
 def cells(held: Held, at: np.ndarray) -> "tuple[np.ndarray, np.ndarray]":
     """Returns the values (int64) and the states of voxels (n x 3)."""
-    at = np.ascontiguousarray(at, np.int32)
-    numbers, states = np.empty(len(at), np.int64), np.empty(len(at), np.bool_)
-    held.call("get_many", ACCESSOR, at.ctypes.data_as(COORD), len(at), *pointers(numbers, states))
-    return numbers, states
+    return read_voxels(held, KINDS["i64"], at)
 
 
 class Block:

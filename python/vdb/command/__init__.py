@@ -3,15 +3,18 @@
 from __future__ import annotations
 
 import argparse
+import contextlib
 import errno
 import os
+import re
 import sys
-from typing import Dict, Optional, Protocol, Sequence
+import warnings
+from typing import Any, Dict, Iterator, Optional, Protocol, Sequence, Type, Union
 
 from .. import __version__
-from ..errors import VdbError
+from ..errors import VdbError, VdbWarning
 from . import convert, info, labels, merge, mesh, picture, slice, view
-from .common import Problem
+from .common import Parser, Problem
 
 
 class Command(Protocol):
@@ -45,7 +48,7 @@ STATUSES = {
 
 def parser() -> argparse.ArgumentParser:
     """Returns the parser of the command line."""
-    made = argparse.ArgumentParser(
+    made = Parser(
         prog="vdb-scene",
         description="Looks into scene files of vdb, and turns their grids into files of other formats and back.",
         epilog="Example: vdb-scene info scene.vdbs\n"
@@ -58,7 +61,7 @@ def parser() -> argparse.ArgumentParser:
     for name, command in COMMANDS.items():
         what = (command.__doc__ or "").strip()
         added = commands.add_parser(
-            name, help=what[0].lower() + what[1:].partition(".")[0], description=what, epilog=f"Example: vdb-scene {command.EXAMPLE}",
+            name, help=re.split(r"\.\s", what[0].lower() + what[1:].rstrip("."))[0], description=what, epilog=f"Example: vdb-scene {command.EXAMPLE}",
             formatter_class=argparse.RawDescriptionHelpFormatter,
         )  # fmt: skip
         command.add_arguments(added)
@@ -83,7 +86,8 @@ def main(arguments: "Optional[Sequence[str]]" = None) -> int:
     open_streams()
     words = parser().parse_args(arguments)
     try:
-        COMMANDS[words.command].run(words)
+        with warning():
+            COMMANDS[words.command].run(words)
         sys.stdout.flush()
     except (VdbError, Problem, ImportError) as error:
         return failed(str(error))
@@ -98,6 +102,23 @@ def main(arguments: "Optional[Sequence[str]]" = None) -> int:
     except KeyboardInterrupt:
         return failed("interrupted", 130)
     return 0
+
+
+@contextlib.contextmanager
+def warning() -> Iterator[None]:
+    """Prints each warning of the package in its block on one line of standard error."""
+    with warnings.catch_warnings():
+        usual = warnings.showwarning
+
+        def show(message: "Union[Warning, str]", category: Type[Warning], *more: Any) -> None:
+            if issubclass(category, VdbWarning):
+                print("vdb-scene: warning:", " ".join(str(message).split()), file=sys.stderr)
+            else:
+                usual(message, category, *more)
+
+        warnings.simplefilter("always", VdbWarning)
+        warnings.showwarning = show  # type: ignore[assignment]
+        yield
 
 
 def failed(why: str, status: int = 1) -> int:

@@ -4,21 +4,26 @@ from __future__ import annotations
 
 import argparse
 import contextlib
+import math
+import os
+import re
 import sys
-from typing import BinaryIO, ContextManager, Iterator, Optional, Sequence
+from typing import Any, BinaryIO, ContextManager, Iterator, Optional, Sequence, Tuple
 
 import numpy as np
 
-from .. import scenefile
+from .. import formats, label_names, scenefile
 from ..errors import RangeError
-from ..files import replacing
-from ..formats.volume import affine_of
+from ..files import naming, replacing
+from ..formats.nrrd import SPACES
+from ..formats.volume import package
 from ..forms import Bounds, Value, check_limit, check_name
+from ..images import ROWS, affine_of
 from ..reading import MAX_BYTES
 from ..scenefile.reader import Progress
 
-#: Reading or writing a file of at least this many bytes shows its progress on a terminal.
-LARGE = 8 << 20
+#: Work that takes longer than this many seconds shows its progress on a terminal, and that on files of at least this many bytes.
+DELAY, LARGE = 0.5, 8 << 20
 BOX = ("X0", "Y0", "Z0", "X1", "Y1", "Z1")
 
 
@@ -26,33 +31,53 @@ class Problem(Exception):
     """What a command can't do, in a line that begins with the file."""
 
 
+class Parser(argparse.ArgumentParser):
+    """A parser that lets options stand between the words FILE [GRID] OUT, and GRID be left out."""
+
+    def parse_known_args(self, args: Any = None, namespace: Any = None) -> Any:
+        found, rest = super().parse_known_args(args, namespace)
+        if getattr(found, "out", "") is None:
+            if rest and (rest[0] == "-" or not rest[0].startswith("-")):
+                found.out = rest.pop(0)
+            else:
+                found.grid, found.out = None, found.grid
+        return found, rest
+
+    def format_usage(self) -> str:
+        return bracketed(super().format_usage())
+
+    def format_help(self) -> str:
+        return bracketed(super().format_help())
+
+
+def bracketed(usage: str) -> str:
+    """Returns a usage with GRID in brackets, which may be left out."""
+    return re.sub(r"GRID \[(OUT\S*)\]", r"[GRID] \1", usage)
+
+
 @contextlib.contextmanager
-def progress(verb: str, path: str) -> "Iterator[Optional[Progress]]":
-    """Yields a call that shows how far a long piece of work is, of bytes done and of all, or None if standard error is no terminal."""
-    shown = False
+def progress(verb: str, path: str, size: Optional[int] = None, unit: str = "B") -> "Iterator[Optional[Progress]]":
+    """Yields a call that shows how far a long piece of work is, by what is done and all, as a bar of tqdm.
 
-    def show(done: int, total: int) -> None:
-        nonlocal shown
-        if total >= LARGE:
-            shown = True
-            print(f"\r{verb} {path}: {100 * done // total} %", end="", file=sys.stderr, flush=True)
-
+    It yields None if standard error is no terminal, or tqdm is missing. With `size`, which is all, the bar of a large file is shown at once,
+    and goes to the end with the block.
+    """
     try:
-        yield show if sys.stderr.isatty() else None
-    finally:
-        if shown:
-            print(file=sys.stderr)
+        library = package("tqdm", "python3-tqdm") if sys.stderr.isatty() else None
+    except ImportError:
+        library = None
+    if not library:
+        yield None
+        return
+    delay = 0 if size and size >= LARGE else DELAY
+    with library.tqdm(desc=f"{verb} {path}", total=size, unit=unit, unit_scale=True, delay=delay) as bar:
 
+        def show(done: int, total: int) -> None:
+            bar.total = total
+            bar.update(done - bar.n)
 
-@contextlib.contextmanager
-def stages(verb: str, path: str, size: int) -> Iterator[None]:
-    """Shows the beginning and the end of a block that handles `size` bytes of a file, as `progress` does."""
-    with progress(verb, path) as show:
-        if show:
-            show(0, size)
-        yield
-        if show:
-            show(size, size)
+        yield show
+        bar.update((bar.total or 0) - bar.n)
 
 
 @contextlib.contextmanager
@@ -65,16 +90,16 @@ def about(path: str) -> Iterator[None]:
         raise Problem(text if text.startswith(f"{path}: ") else f"{path}: {text}") from error
 
 
-def loaded(path: str) -> scenefile.Scene:
-    """Returns the scene of a file."""
+def loaded(path: str, digest: bool = False) -> scenefile.Scene:
+    """Returns the scene of a file, which is compared with the digest beside it if that is asked for."""
     with progress("reading", path) as show:
-        return scenefile.load(path, show)
+        return scenefile.load(path, show, digest=digest)
 
 
-def saved(scene: scenefile.Scene, path: str) -> None:
-    """Writes a scene to a file."""
+def saved(scene: scenefile.Scene, path: str, digest: bool = False) -> None:
+    """Writes a scene to a file, and its digest beside it."""
     with about(path), progress("writing", path) as show:
-        scene.save(path, show)
+        scene.save(path, show, digest=digest)
 
 
 def grid_of(scene: scenefile.Scene, path: str, name: Optional[str]) -> scenefile.Grid:
@@ -89,6 +114,26 @@ def grid_of(scene: scenefile.Scene, path: str, name: Optional[str]) -> scenefile
     return scene[name]
 
 
+def opened(arguments: argparse.Namespace) -> "Tuple[str, scenefile.Grid, label_names.Names]":
+    """Returns the name, the grid and the names of the labels of the file, a scene or by its ending an image.
+
+    Raises Problem if OUT, which would be overwritten, has the ending of such a file.
+    """
+    path, name, images = arguments.file, arguments.grid, tuple(formats.FORMATS)
+    if arguments.out.lower().endswith((".vdbs", *images)):
+        raise Problem(f"{arguments.out}: the ending is that of a scene file or an image, which isn't overwritten")
+    if path.lower().endswith(images):
+        with naming(path):
+            size = os.path.getsize(path)
+        with about(path), progress("reading", path, size):
+            grid = formats.load(path, scenefile.Grid, max_bytes=arguments.max_bytes)
+        return name or os.path.basename(path).partition(".")[0], grid, label_names.of(path)
+    scene = loaded(path)
+    grid = grid_of(scene, path, name)
+    name = next(name for name, each in scene.items() if each is grid)
+    return name, grid, label_names.of(path, name)
+
+
 def world_of(grid: scenefile.Grid) -> np.ndarray:
     """Returns the affine (3 x 4) that maps the middle of a voxel to the world, the identity if the grid keeps none.
 
@@ -98,6 +143,17 @@ def world_of(grid: scenefile.Grid) -> np.ndarray:
     if np.linalg.matrix_rank(affine[:, :3]) < 3:
         raise RangeError(f"the affine of the grid has no inverse: {affine.tolist()}")
     return affine
+
+
+def anatomy_of(grid: scenefile.Grid) -> "Optional[np.ndarray]":
+    """Returns the affine (3 x 4) of a grid if it maps to a body, whose left, back and lower ends have the lesser numbers, else None.
+
+    An affine is taken for such a one, unless its file says otherwise by codes of NIfTI, all 0, or a space of NRRD. Raises the errors of
+    `world_of`.
+    """
+    codes, space = (grid.metadata.get(key) for key in ("image_nifti", "image_space"))
+    says = not codes.startswith("0,0") if codes else space.lower() in SPACES if space else ROWS[0] in grid.metadata
+    return world_of(grid) if says else None
 
 
 def output(path: str) -> "ContextManager[BinaryIO]":
@@ -131,10 +187,20 @@ def add_scene_and_grid(parser: argparse.ArgumentParser) -> None:
     parser.add_argument("grid", metavar="GRID", help="the name of a grid")
 
 
-def add_bounds(parser: "argparse._ActionsContainer", what: str) -> None:
+def add_image_and_out(parser: argparse.ArgumentParser, out: str) -> None:
+    """Adds the arguments FILE, GRID and OUT, and the options of a gray image."""
+    parser.add_argument("file", metavar="FILE", help=f"a scene file or an image ({', '.join(formats.FORMATS)})")
+    parser.add_argument("grid", metavar="GRID", help="the name of a grid, which an image or a scene of one grid needs not")
+    parser.add_argument("out", nargs="?", metavar=out, help="the file to write; - for standard output")
+    parser.add_argument("--beneath", metavar="IMAGE", help="a gray image of the same voxels, which is shown beneath the labels")
+    parser.add_argument("--window", nargs=2, type=number_word, metavar=("BLACK", "WHITE"), help="the numbers of the gray image that are black and "
+                        "white (default: nearly the least and the greatest one)")  # fmt: skip
+    add_max_bytes(parser)
+
+
+def add_bounds(parser: "argparse._ActionsContainer", what: str, usual: str = "the bounding box of the active voxels") -> None:
     """Adds the option --bounds, which is `what`."""
-    parser.add_argument("--bounds", nargs=6, type=int, metavar=BOX, help=f"{what}, minimum and maximum included; "
-                        "without it, the bounding box of the active voxels")  # fmt: skip
+    parser.add_argument("--bounds", nargs=6, type=int, metavar=BOX, help=f"{what}, minimum and maximum included; without it, {usual}")
 
 
 def add_max_bytes(parser: argparse.ArgumentParser) -> None:
@@ -159,6 +225,17 @@ def value_word(word: str) -> Value:
         return int(word)
     except ValueError:
         raise argparse.ArgumentTypeError(f"a value is a number, true or false, not {word!r}") from None
+
+
+def number_word(word: str) -> float:
+    """Returns the finite number that a word is."""
+    try:
+        found = float(word)
+    except ValueError:
+        found = math.nan
+    if not math.isfinite(found):
+        raise argparse.ArgumentTypeError(f"a number, not {word!r}")
+    return found
 
 
 def limit_word(word: str) -> int:

@@ -4,28 +4,30 @@
 One of IN and OUT is a scene file (.vdbs). The ending of the other one names its format:
 {endings}. Arrays have the axes x, y, z.
 A scene file that exists keeps its other grids. A grid of the same name is replaced; its
-metadata and root limit stay. A box of a grid is written, whose origin and shape are printed
-on standard error."""
+metadata and root limit stay. A grid that was an image is written as that image, with its shape,
+dtype and place; any other grid as the bounding box of its active voxels. The origin and the
+shape are printed on standard error. Names of labels are copied from the table beside IN, or
+the header of a .seg.nrrd, to a table beside OUT: OUT.GRID.tsv for a scene file OUT.vdbs."""
 from __future__ import annotations
 
 import argparse
 import os
 import sys
 
-from .. import formats
+from .. import formats, label_names
 from ..errors import MissingFileError
 from ..forms import DEFAULT_LIMIT, KINDS, NAME_FORM
 from ..formats import npy
 from ..formats.volume import as_kind
-from ..scenefile import Grid, Scene
+from ..images import DTYPES
+from ..scenefile import Grid, Mask, Scene
 from .common import (
-    Problem, about, add_bounds, add_max_bytes, box_of, grid_of, limit_word, loaded, name_word, numbers_of, output, saved, stages, value_word,
+    Problem, about, add_bounds, add_max_bytes, box_of, grid_of, limit_word, loaded, name_word, numbers_of, output, progress, saved, value_word,
 )  # fmt: skip
 
 __doc__ = __doc__.format(endings=", ".join(formats.FORMATS))
 EXAMPLE = "convert labels.npy scene.vdbs --grid organs --origin 0 0 -20\n         vdb-scene convert scene.vdbs organs.npy --bounds 0 0 0 63 63 63"
 SCENE = ".vdbs"
-DTYPES = ("bool", *(f"{sign}int{bits}" for bits in (8, 16, 32, 64) for sign in ("", "u")))
 
 
 def add_arguments(parser: argparse.ArgumentParser) -> None:
@@ -34,6 +36,10 @@ def add_arguments(parser: argparse.ArgumentParser) -> None:
     parser.add_argument("--grid", type=name_word, metavar="N", help="the name of the grid (default: the only grid of IN, or the name of the file IN)")
     parser.add_argument("--active", metavar="MASK", help="the file for the states, booleans: read beside IN (default: the voxels other than the "
                         "background are active), or written beside OUT")  # fmt: skip
+    parser.add_argument("--names", metavar="TABLE", help="names of labels: a .tsv of BIDS, a .seg.nrrd or a label file of ITK-SNAP (default: what "
+                        "is beside IN or in it)")  # fmt: skip
+    parser.add_argument("--digest", action="store_true", help="write the SHA-256 of the scene file OUT to OUT.sha256, which sha256sum -c checks; "
+                        "compare the scene file IN with IN.sha256")  # fmt: skip
     add_max_bytes(parser)
     into = parser.add_argument_group("into a scene file")
     into.add_argument("--origin", nargs=3, type=int, metavar=("X", "Y", "Z"), help="the coordinate of the first voxel (default: that in IN, or 0 0 0)")
@@ -41,9 +47,14 @@ def add_arguments(parser: argparse.ArgumentParser) -> None:
     into.add_argument("--limit", type=limit_word, metavar="N", help="the root limit (default 4096, or that of the grid replaced)")
     into.add_argument("--type", choices=[*KINDS], help="the type of the grid (default: the narrowest for the values of IN)")
     out = parser.add_argument_group("out of a scene file")
-    add_bounds(out, "the box")
+    add_bounds(out, "the box", "the image, or the bounding box of the active voxels")
     out.add_argument("--fill", type=value_word, metavar="V", help="write this value for inactive voxels in place of their own")
-    out.add_argument("--dtype", choices=DTYPES, help="write values of this type, which must hold all of them (default: bool, int32 or int64)")
+    out.add_argument("--dtype", choices=DTYPES, help="write values of this type, which must hold all of them (default: that of the image, or "
+                     "bool, int32 or int64)")  # fmt: skip
+    only = out.add_mutually_exclusive_group()
+    only.add_argument("--states", action="store_true", help="write the states alone, true for an active voxel")
+    only.add_argument("--values-only", action="store_true", help="write the values, even if those of a bool grid differ from its states")
+    out.add_argument("--strict", action="store_true", help="active voxels outside the image are an error in place of a warning")
 
 
 def run(arguments: argparse.Namespace) -> None:
@@ -56,7 +67,7 @@ def run(arguments: argparse.Namespace) -> None:
 def read_in(arguments: argparse.Namespace) -> None:
     """Puts a file into a scene file as a grid."""
     try:
-        scene = loaded(arguments.out)
+        scene = loaded(arguments.out, arguments.digest and os.path.exists(f"{arguments.out}.sha256"))
     except MissingFileError:
         scene = Scene()
     name = arguments.grid or name_of(arguments.source)
@@ -66,14 +77,22 @@ def read_in(arguments: argparse.Namespace) -> None:
     if arguments.active:
         with about(arguments.active):
             active = as_kind(formats.read(arguments.active, arguments.max_bytes).values, KINDS["bool"])
-    with about(arguments.source), stages("reading", arguments.source, os.path.getsize(arguments.source)):
+    with about(arguments.source), progress("reading", arguments.source, os.path.getsize(arguments.source)):
         made = formats.load(
             arguments.source, Grid, active=active, origin=arguments.origin, background=arguments.background, limit=limit,
             metadata=old.metadata if old else None, kind=arguments.type, max_bytes=arguments.max_bytes,
         )  # fmt: skip
     with about(arguments.out):
         scene[name] = made
-    saved(scene, arguments.out)
+    names = names_of(arguments, "")
+    saved(scene, arguments.out, arguments.digest)
+    if names:
+        label_names.keep(arguments.out, names, name)
+
+
+def names_of(arguments: argparse.Namespace, grid: str) -> label_names.Names:
+    """Returns the names of labels that belong to IN."""
+    return label_names.read(arguments.names) if arguments.names else label_names.of(arguments.source, grid)
 
 
 def name_of(path: str) -> str:
@@ -85,20 +104,29 @@ def name_of(path: str) -> str:
 
 
 def write_out(arguments: argparse.Namespace) -> None:
-    """Writes a box of a grid to a file, and its states to another one."""
+    """Writes a grid to a file, its states to another one, and the names of its labels to a table."""
     outs = [it for it in (arguments.out, arguments.active) if it]
     for path in outs:
         if path != "-":
             formats.format_of(path)
-    grid = grid_of(loaded(arguments.source), arguments.source, arguments.grid)
+    scene = loaded(arguments.source, arguments.digest)
+    grid = grid_of(scene, arguments.source, arguments.grid)
+    names = {} if arguments.states else names_of(arguments, arguments.grid or next(iter(scene)))
+    grid = Mask(grid) if arguments.states else grid
     with about(arguments.source):
-        volumes = formats.volume_of(grid, box_of(arguments.bounds), arguments.fill, arguments.dtype, arguments.max_bytes)
+        volumes = formats.volume_of(
+            grid, box_of(arguments.bounds), arguments.fill, arguments.dtype, arguments.max_bytes, arguments.strict
+        )
+        if not arguments.active and not arguments.values_only:
+            formats.check_shown(grid, volumes[0].values, volumes[1].values, arguments.fill)
     for path, volume in zip(outs, volumes):
         if path == "-":
             with output(path) as file:
                 npy.write(file, path, volume)
         else:
-            with stages("writing", path, volume.values.nbytes):
+            with progress("writing", path, volume.values.nbytes):
                 formats.write(path, volume)
+    if names and arguments.out != "-":
+        label_names.keep(arguments.out, names)
     shape = " ".join(map(str, volumes[0].values.shape))
     print(f"origin {numbers_of([volumes[0].origin or (0, 0, 0)])}, shape {shape}", file=sys.stderr)

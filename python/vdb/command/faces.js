@@ -3,7 +3,7 @@
 const RECTANGLE = `#version 300 es
 precision highp float;
 in vec3 low; in vec2 sides; in float direction; in vec3 colour;
-uniform mat4 view; uniform vec3 spacing, eye;
+uniform mat4 view; uniform mat3 world, normals; uniform vec3 eye, sun;
 out vec3 shade, from; out vec2 voxel;
 const vec2 CORNERS[6] = vec2[](vec2(0, 0), vec2(1, 0), vec2(1, 1), vec2(0, 0), vec2(1, 1), vec2(0, 1));
 void main() {
@@ -13,8 +13,9 @@ void main() {
   vec3 u = axis == 0 ? vec3(0, 1, 0) : axis == 1 ? vec3(0, 0, 1) : vec3(1, 0, 0);
   vec3 v = u.zxy, normal = v.zxy * (upper == 1 ? 1.0 : -1.0);
   from = low + u * voxel.x + v * voxel.y;
-  vec3 place = from * spacing;
-  float front = max(dot(normal, normalize(eye - place)), 0.0), light = max(dot(normal, normalize(vec3(-0.45, -0.6, 0.9))), 0.0);
+  vec3 place = world * from;
+  normal = normalize(normals * normal);
+  float front = max(dot(normal, normalize(eye - place)), 0.0), light = max(dot(normal, normalize(sun)), 0.0);
   shade = pow(colour, vec3(2.2)) * (0.22 + 0.55 * front + 0.45 * light);
   gl_Position = view * vec4(place, 1);
 }`;
@@ -30,19 +31,19 @@ void main() {
   pixel = vec4(pow(shade * (1.0 - line), vec3(1.0 / 2.2)), 1);
 }`;
 const POINT = `#version 300 es
-in vec3 low; uniform mat4 view; uniform vec3 spacing;
-void main() { gl_Position = view * vec4(low * spacing, 1); }`;
+in vec3 low; uniform mat4 view; uniform mat3 world;
+void main() { gl_Position = view * vec4(world * low, 1); }`;
 const LINE = `#version 300 es
 precision mediump float;
 uniform vec4 colour; out vec4 pixel;
 void main() { pixel = colour; }`;
 
 const PLANE = `#version 300 es
-uniform mat4 view; uniform vec3 spacing, corner, right, across;
+uniform mat4 view; uniform mat3 world; uniform vec3 corner, right, across;
 out vec2 part;
 void main() {
   part = vec2(gl_VertexID & 1, gl_VertexID >> 1);
-  gl_Position = view * vec4((corner + right * part.x + across * part.y) * spacing, 1);
+  gl_Position = view * vec4(world * (corner + right * part.x + across * part.y), 1);
 }`;
 const SLICE = `#version 300 es
 precision highp float;
@@ -63,6 +64,7 @@ function product(a, b) {
 }
 
 const dot = (a, b) => a.reduce((sum, part, axis) => sum + part * b[axis], 0);
+const times = (rows, vector) => rows.map((row) => dot(row, vector));
 
 /** Builds a program of two shaders. Its attributes have the places of `names`. */
 function programOf(gl, vertex, fragment, names) {
@@ -101,9 +103,18 @@ function instances(middle) {
 function facesOf(canvas) {
   const gl = canvas.getContext("webgl2", { antialias: true });
   if (!gl) throw new Error("the browser has no WebGL 2");
-  const spacing = about.spacing, middle = sides.map((side, axis) => low[axis] + side / 2);
-  const radius = Math.hypot(...sides.map((side, axis) => side * spacing[axis])) / 2;
-  const camera = { turn: 0.6, tilt: 0.42, away: 3.3 * radius, target: [0, 0, 0] };
+  const { world, inverse } = about, middle = sides.map((side, axis) => low[axis] + side / 2), body = about.ends.length > 0;
+  const radiusOf = (lengths) => Math.hypot(...times(world.map((row) => row.map(Math.abs)), lengths)) / 2, radius = radiusOf(sides);
+  const [first, last] = about.bounds, labelled = first.map((part, axis) => (part + last[axis] + 1) / 2 - about.origin[axis] - middle[axis]);
+  const camera = { // a body is seen from its front
+    turn: body ? Math.PI - 0.6 : 0.6, tilt: body ? 0.3 : 0.42, away: 3.3 * radiusOf(first.map((part, axis) => last[axis] - part + 5)),
+    target: times(world, labelled),
+  };
+  const letters = about.ends.flatMap((pair, axis) => [...pair].map((letter, upper) => {
+    const element = Object.assign(document.createElement("b"), { className: "edge", textContent: letter });
+    canvas.parentElement.append(element);
+    return { element, place: times(world, sides.map((side, other) => other === axis ? side * (upper - 0.5) * 1.15 : 0)) };
+  }));
   const rectangles = programOf(gl, RECTANGLE, SURFACE, ["low", "sides", "direction", "colour"]);
   const lines = programOf(gl, POINT, LINE, ["low"]), planes = programOf(gl, PLANE, SLICE, []), texture = gl.createTexture();
   const faceBuffer = gl.createBuffer(), lineBuffer = gl.createBuffer();
@@ -132,15 +143,22 @@ function facesOf(canvas) {
     gl.vertexAttribDivisor(place, 1);
   }
 
+  /** Draws by a program from now on. */
+  function use(made, view) {
+    gl.useProgram(made.program);
+    gl.uniformMatrix4fv(made.view, false, view);
+    gl.uniformMatrix3fv(made.world, true, world.flat());
+  }
+
   const cutting = () => $("#cut").checked;
 
   function drawFaces(view, eye) {
-    gl.useProgram(rectangles.program);
-    gl.uniformMatrix4fv(rectangles.view, false, view);
-    gl.uniform3fv(rectangles.spacing, spacing);
+    use(rectangles, view);
+    gl.uniformMatrix3fv(rectangles.normals, false, inverse.flat());
     gl.uniform3fv(rectangles.eye, eye);
+    gl.uniform3fv(rectangles.sun, [-0.45, body ? 0.6 : -0.6, 0.9]);
     gl.uniform3fv(rectangles.cut, at.map((part, axis) => part + 0.5 - middle[axis]));
-    gl.uniform3fv(rectangles.toward, frame()[2].map((part) => cutting() ? part : 0));
+    gl.uniform3fv(rectangles.toward, sides.map((_, axis) => cutting() ? dot(frame()[2], world.map((row) => row[axis])) : 0));
     gl.bindBuffer(gl.ARRAY_BUFFER, faceBuffer);
     for (const { visible, faces: [first, count] } of about.groups) {
       if (!visible || !count) continue;
@@ -155,12 +173,10 @@ function facesOf(canvas) {
 
   /** Draws the voxels of the three slices that are shown. */
   function drawSlices(view) {
-    gl.useProgram(planes.program);
-    gl.uniformMatrix4fv(planes.view, false, view);
-    gl.uniform3fv(planes.spacing, spacing);
+    use(planes, view);
     gl.bindTexture(gl.TEXTURE_2D, texture);
     for (const name of [gl.TEXTURE_MIN_FILTER, gl.TEXTURE_MAG_FILTER]) gl.texParameteri(gl.TEXTURE_2D, name, gl.NEAREST);
-    for (const { axis, right, across } of SLICES) {
+    for (const { axis, sides: [right, across] } of SLICES) {
       const [width, height] = [right, across].map((side) => Math.min(sides[side], TEXELS)), place = [...at];
       const texels = new Uint32Array(width * height), corner = sides.map((side) => -side / 2);
       for (let row = 0; row < height; row++) {
@@ -200,9 +216,7 @@ function facesOf(canvas) {
   }
 
   function drawLines(view) {
-    gl.useProgram(lines.program);
-    gl.uniformMatrix4fv(lines.view, false, view);
-    gl.uniform3fv(lines.spacing, spacing);
+    use(lines, view);
     const from = sides.map((side) => -side / 2), to = sides.map((side) => side / 2);
     drawBox(from, to, [0.24, 0.26, 0.3, 1]);
     [[0.88, 0.53, 0.45, 1], [0.56, 0.75, 0.46, 1], [0.47, 0.65, 0.9, 1]].forEach((colour, axis) => {
@@ -219,18 +233,23 @@ function facesOf(canvas) {
     gl.clear(gl.COLOR_BUFFER_BIT | gl.DEPTH_BUFFER_BIT);
     gl.enable(gl.DEPTH_TEST);
     gl.enable(gl.CULL_FACE);
+    gl.frontFace(about.mirrored ? gl.CW : gl.CCW);
     drawFaces(view, eye);
     gl.disable(gl.CULL_FACE);
     if (cutting()) drawSlices(view);
     drawLines(view);
+    for (const { element, place } of letters) {
+      const [x, y, , w] = [0, 1, 2, 3].map((row) => dot([...place, 1], [0, 4, 8, 12].map((column) => view[row + column])));
+      Object.assign(element.style, { left: `${50 + 50 * x / w}%`, top: `${50 - 50 * y / w}%`, opacity: w > camera.away ? 0.35 : 1 });
+    }
   }
 
   /** Moves the crosshair to the first voxel that is shown on the line of sight through a pixel. */
   function pick(event) {
     const { eye, focus, shape } = viewOf(), [right, up, back] = frame();
     const h = (2 * event.offsetX / canvas.clientWidth - 1) * shape / focus, v = (1 - 2 * event.offsetY / canvas.clientHeight) / focus;
-    const begin = eye.map((part, axis) => part / spacing[axis] + middle[axis]);
-    const ray = right.map((part, axis) => (h * part + v * up[axis] - back[axis]) / spacing[axis]);
+    const begin = times(inverse, eye).map((part, axis) => part + middle[axis]);
+    const ray = times(inverse, right.map((part, axis) => h * part + v * up[axis] - back[axis]));
     const spans = ray.map((part, axis) => [low[axis], low[axis] + sides[axis]].map((end) => (end - begin[axis]) / part).sort((a, b) => a - b));
     let now = Math.max(0, ...spans.map((span) => span[0]));
     const past = Math.min(...spans.map((span) => span[1]));

@@ -1,11 +1,12 @@
 # SPDX-License-Identifier: Apache-2.0
 """Writes the grids of two scene files into one.
 
-A name that both have is an error unless --prefer chooses."""
+A name that both have is an error unless --prefer chooses. Names of labels go to tables OUT.GRID.tsv."""
 from __future__ import annotations
 
 import argparse
 
+from .. import label_names
 from ..scenefile import Scene
 from .common import Problem, about, loaded, saved
 
@@ -25,6 +26,10 @@ def run(arguments: argparse.Namespace) -> None:
     if both and not arguments.prefer:
         raise Problem(f"{arguments.b}: {arguments.a} has {', '.join(both)} too: choose by --prefer a or --prefer b")
     made = {**second, **first} if arguments.prefer == "a" else {**first, **second}
+    names = {name: label_names.of(arguments.a if grid is first.get(name) else arguments.b, name) for name, grid in made.items()}
     with about(arguments.out):
         scene = Scene(made)
     saved(scene, arguments.out)
+    for name, found in names.items():
+        if found:
+            label_names.keep(arguments.out, found, name)

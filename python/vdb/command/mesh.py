@@ -3,7 +3,8 @@
 
 The mesh of each label is closed by itself: it has the faces to inactive voxels and to other labels.
 Triangles run anticlockwise, seen from outside. Voxel x reaches from x - 0.5 to x + 0.5, and the affine
-of the grid, if it keeps one, maps that to the world."""
+of the grid, if it keeps one, maps that to the world. Names and colours of labels are those of the
+table FILE.GRID.tsv or FILE.tsv (without .vdbs), if it has them."""
 from __future__ import annotations
 
 import argparse
@@ -12,6 +13,7 @@ from typing import List, Optional
 
 import numpy as np
 
+from .. import label_names
 from ..errors import RangeError
 from ..forms import Value
 from ..scenefile import Grid
@@ -41,8 +43,9 @@ def run(arguments: argparse.Namespace) -> None:
         if ending not in WRITERS:
             raise RangeError(f"the ending is none of {', '.join(WRITERS)}")
     grid = grid_of(loaded(arguments.file), arguments.file, arguments.grid)
-    with about(arguments.file), progress("finding faces in", arguments.file) as show:
+    with about(arguments.file), progress("finding faces in", arguments.file, unit=" voxels") as show:
         model = model_of(grid, arguments.grid, arguments.label, arguments.merge, arguments.max_faces, show)
+        model = model._replace(names=label_names.of(arguments.file, arguments.grid))
     with about(arguments.out), output(arguments.out) as file:
         for piece in WRITERS[ending](model):
             file.write(piece)

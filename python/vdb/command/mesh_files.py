@@ -9,6 +9,7 @@ from typing import Any, Callable, Dict, Iterator, List, NamedTuple, Tuple
 import numpy as np
 
 from ..errors import RangeError
+from ..label_names import Names, coloured
 from ..scenefile import picture
 from ..scenefile.mesh import Mesh
 from .common import text_of
@@ -22,12 +23,19 @@ MOST_BYTES = 2**32 - 1
 
 
 class Model(NamedTuple):
-    """A mesh with the name of its grid, the values of its labels (n, rising), and the affine (3 x 4) of the middles of voxels."""
+    """A mesh with the name of its grid, the values of its labels (n, rising), the affine (3 x 4) of the middles of voxels, and the names
+    of labels."""
 
     name: str
     values: np.ndarray
     mesh: Mesh
     affine: np.ndarray
+    names: Names = {}
+
+    @property
+    def colours(self) -> np.ndarray:
+        """The colours of the labels (n x 3, uint8)."""
+        return coloured(picture.colours_of(self.values), self.values, self.names)
 
     @property
     def triangles(self) -> np.ndarray:
@@ -35,48 +43,71 @@ class Model(NamedTuple):
         found = self.mesh.triangles
         return found if np.linalg.det(self.affine[:, :3]) > 0 else found[:, ::-1]
 
-    def places(self) -> "Iterator[np.ndarray]":
-        """Yields the corners in the world (m x 3, float64), in chunks."""
-        for first in range(0, len(self.mesh.corners), ROWS):
-            yield (self.mesh.corners[first : first + ROWS] - 0.5) @ self.affine[:, :3].T + self.affine[:, 3]
+    def places(self, corners: np.ndarray) -> "Iterator[np.ndarray]":
+        """Yields corners (m x 3) in the world (float64), in chunks."""
+        for first in range(0, len(corners), ROWS):
+            yield (corners[first : first + ROWS] - 0.5) @ self.affine[:, :3].T + self.affine[:, 3]
+
+    def texts(self) -> "List[str]":
+        """Returns the text of each value, and behind it the name if it has one."""
+        names = [self.names[value].name.split() if value in self.names else [] for value in self.values.tolist()]
+        return [" ".join([text_of(value), *name]) for value, name in zip(self.values.tolist(), names)]
 
     def groups(self) -> "List[Tuple[str, int, int]]":
-        """Returns the labels: the text of each value, and its first triangle and the one after its last."""
+        """Returns the labels: the text of each, and its first triangle and the one after its last."""
         ends = (2 * np.searchsorted(self.mesh.label, np.arange(len(self.values) + 1))).tolist()
-        return list(zip(map(text_of, self.values.tolist()), ends, ends[1:]))
+        return list(zip(self.texts(), ends, ends[1:]))
 
 
 def ply(model: Model) -> "Iterator[bytes]":
-    """Yields a PLY file, binary and little endian. A face has its colour and its label. Raises RangeError for a label outside 32 bits."""
+    """Yields a PLY file, binary and little endian. Each label has corners of its own, which have its colour and its number, since many
+    programs read no such property of a face. Raises RangeError for a label outside 32 bits."""
     numbers = model.values.astype(np.int64)
     outside = numbers[numbers.astype(np.int32) != numbers]
     if len(outside):
         raise RangeError(f"PLY has no integers of 64 bits for the label {outside[0]}: write .glb or .obj")
-    face = np.dtype([("count", "u1"), ("corners", "<i4", 3), ("colour", "u1", 3), ("label", "<i4")])
-    triangles, label, colours = model.triangles, model.mesh.label, picture.colours_of(model.values)
+    corners = model.mesh.corners
+    keys, triangles = np.unique(np.repeat(model.mesh.label, 2)[:, None].astype(np.int64) * len(corners) + model.triangles, return_inverse=True)
+    triangles, (of, corner) = triangles.reshape(-1, 3), np.divmod(keys, len(corners))
+    names = "".join(f"comment label {text}\n" for text in map(ascii_of, model.texts()) if " " in text)
     colour_lines = "".join(f"property uchar {part}\n" for part in ("red", "green", "blue"))
     yield (
-        f"ply\nformat binary_little_endian 1.0\ncomment grid {model.name}\nelement vertex {len(model.mesh.corners)}\n"
-        "property double x\nproperty double y\nproperty double z\n"
-        f"element face {len(triangles)}\nproperty list uchar int vertex_indices\n{colour_lines}property int label\nend_header\n"
+        f"ply\nformat binary_little_endian 1.0\ncomment grid {model.name}\n{names}element vertex {len(keys)}\n"
+        f"property double x\nproperty double y\nproperty double z\n{colour_lines}property int label\n"
+        f"element face {len(triangles)}\nproperty list uchar int vertex_indices\nend_header\n"
     ).encode()
-    for places in model.places():
-        yield places.astype("<f8").tobytes()
+    vertex = np.dtype([("place", "<f8", 3), ("colour", "u1", 3), ("label", "<i4")])
+    colours, first = model.colours, 0
+    for places in model.places(corners[corner]):
+        labels = of[first : first + len(places)]
+        first += len(places)
+        yield packed_rows(vertex, place=places, colour=colours[labels], label=numbers[labels])
+    face = np.dtype([("count", "u1"), ("corners", "<i4", 3)])
     for first in range(0, len(triangles), ROWS):
-        part = triangles[first : first + ROWS]
-        rows, of = np.empty(len(part), face), label[(first + np.arange(len(part))) // 2]
-        rows["count"], rows["corners"], rows["colour"], rows["label"] = 3, part, colours[of], numbers[of]
-        yield rows.tobytes()
+        yield packed_rows(face, count=3, corners=triangles[first : first + ROWS])
+
+
+def packed_rows(form: np.dtype, **columns: Any) -> bytes:
+    """Returns the bytes of rows of this form. The last column has their number."""
+    rows = np.empty(len(list(columns.values())[-1]), form)
+    for name, column in columns.items():
+        rows[name] = column
+    return rows.tobytes()
+
+
+def ascii_of(text: str) -> str:
+    """Returns a text as ASCII, which the header of PLY is."""
+    return text.encode("ascii", "backslashreplace").decode()
 
 
 def obj(model: Model) -> "Iterator[bytes]":
     """Yields an OBJ file. Each label is a group."""
     yield f"# grid {model.name}\no {model.name}\n".encode()
-    for places in model.places():
+    for places in model.places(model.mesh.corners):
         yield ("v %.12g %.12g %.12g\n" * len(places) % tuple(places.ravel().tolist())).encode()
     triangles = model.triangles + 1
     for text, start, past in model.groups():
-        yield f"g label_{text}\n".encode()
+        yield f"g label_{text.replace(' ', '_')}\n".encode()
         for first in range(start, past, ROWS):
             part = triangles[first : min(first + ROWS, past)]
             yield ("f %d %d %d\n" * len(part) % tuple(part.ravel().tolist())).encode()
@@ -131,7 +162,7 @@ def document(model: Model, low: np.ndarray, high: np.ndarray) -> "Dict[str, Any]
                 "name": f"label {text}",
                 "pbrMetallicRoughness": {"baseColorFactor": [*colour, 1], "metallicFactor": 0, "roughnessFactor": 0.9},
             }
-            for (_, (text, _, _)), colour in zip(groups, linear(picture.colours_of(model.values)).tolist())
+            for (_, (text, _, _)), colour in zip(groups, linear(model.colours).tolist())
         ],
         "accessors": [
             {"bufferView": 0, "componentType": 5126, "count": count, "type": "VEC3", "min": [0, 0, 0], "max": high.tolist()},

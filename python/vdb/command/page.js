@@ -4,17 +4,13 @@ const about = JSON.parse(document.getElementById("about").textContent);
 const $ = (words) => document.querySelector(words);
 const AXES = "xyz", root = document.documentElement;
 const ARRAYS = { i8: BigInt64Array, f8: Float64Array, i4: Int32Array, u4: Uint32Array, u2: Uint16Array, u1: Uint8Array };
-// Each slice: its axis, those that go to the right and down or up, and its name. Rows and columns are as in radiology.
-const SLICES = [
-  { axis: 2, right: 0, across: 1, up: false, name: "Axial" },
-  { axis: 1, right: 0, across: 2, up: true, name: "Coronal" },
-  { axis: 0, right: 1, across: 2, up: true, name: "Sagittal" },
-];
+// Each slice: its name, its axis, the axes to the right and down, whether these run backwards, and the letters at its edges.
+const SLICES = about.panes;
 const OUTSIDE = 0xff0f0c0b, EMPTY = 0xff211d1a; // pixels, red in the lowest byte
 const low = about.low.map((part, axis) => part - about.origin[axis]); // the first voxel that is shown
 const sides = about.high.map((part, axis) => part - about.low[axis] + 1);
 const text = (number) => number.toLocaleString("en");
-let data, table, blocks, shown, paint, at, zoom = 1, front = SLICES[0], faces = null, waiting = false;
+let data, table, blocks, shown, paint, at, picked, zoom = 1, opacity = 0.6, front = SLICES[0], faces = null, waiting = false;
 
 /** Unpacks the data: arrays by their names. */
 async function unpack() {
@@ -55,7 +51,24 @@ function cell(x, y, z) {
   return block < 0 ? -1 - block : data.cells[block * 512 + ((x & 7) << 6 | (y & 7) << 3 | (z & 7))];
 }
 
+/** Returns the gray of a voxel, or -1 outside the gray image. */
+function grayOf(x, y, z) {
+  if (!about.gray) return -1;
+  const { low: [x0, y0, z0], shape: [a, b, c], step } = about.gray;
+  const i = Math.floor((x - x0) / step), j = Math.floor((y - y0) / step), k = Math.floor((z - z0) / step);
+  return i < 0 || j < 0 || k < 0 || i >= a || j >= b || k >= c ? -1 : data.gray[(i * b + j) * c + k];
+}
+
+/** Returns the pixel of a voxel: the colour of its label, or that over the gray image. */
+function pixel(x, y, z) {
+  const number = cell(x, y, z), gray = grayOf(x, y, z);
+  if (gray < 0) return paint[number];
+  const over = shown[number] ? opacity : 0, colour = paint[number], under = gray * (1 - over);
+  return 0xff000000 | (colour >> 16 & 255) * over + under << 16 | (colour >> 8 & 255) * over + under << 8 | (colour & 255) * over + under;
+}
+
 const valueOf = (number) => about.kind === "bool" ? String(data.values[number] !== 0n) : String(data.values[number]);
+const nameOf = (number) => about.names[number] || "";
 const colourOf = (number) => `rgb(${data.colours.subarray(3 * number, 3 * number + 3).join()})`;
 const inside = (axis, part) => Math.min(Math.max(part, low[axis]), low[axis] + sides[axis] - 1);
 
@@ -67,13 +80,24 @@ function move(to) {
   const empty = !data.active[number];
   $(".cell .chip").style.background = empty ? "transparent" : colourOf(number);
   $(".cell b").textContent = valueOf(number);
-  $(".cell span:last-child").textContent = empty ? "inactive" : "active";
+  $(".cell span:last-child").textContent = empty ? "inactive" : `${text(data.counts[number])} voxels`;
+  $("#name").textContent = nameOf(number);
   if (about.affine) {
     const world = about.affine.map((row) => row[3] + place.reduce((sum, part, axis) => sum + row[axis] * part, 0));
-    $("#world").textContent = `world ${world.map((part) => part.toFixed(2)).join(", ")}`;
+    $("#world").textContent = `${about.ends.length ? "RAS" : "world"} ${world.map((part) => part.toFixed(2)).join(", ")}`;
   }
+  mark(number);
   Object.assign(root.dataset, { at: place.join(" "), value: valueOf(number), cell: empty ? "inactive" : "active" });
   draw();
+}
+
+/** Marks the row of a label, and scrolls the list to it. */
+function mark(number) {
+  if (picked) picked.row.classList.remove("picked");
+  picked = about.groups.find((group) => group.number === number);
+  if (!picked) return;
+  picked.row.classList.add("picked");
+  picked.row.scrollIntoView({ block: "nearest" });
 }
 
 /** Moves the crosshair by voxels along an axis. */
@@ -99,18 +123,17 @@ function fit(canvas) {
   return width > 0 && height > 0;
 }
 
-/** Returns how a slice lies in its canvas: pixels per voxel, and the voxel of the left and the upper edge, for right and across. */
-function placed(slice) {
-  const axes = [slice.right, slice.across], lengths = [slice.canvas.width, slice.canvas.height];
+/** Returns how a slice lies in its canvas: the voxel of a pixel and the pixel of a voxel, to the right and down. */
+function placed({ canvas, sides: axes, flips }) {
+  const lengths = [canvas.width, canvas.height];
   const fitted = Math.min(...axes.map((axis, side) => lengths[side] / (sides[axis] * about.spacing[axis])));
   return axes.map((axis, side) => {
     const pixels = fitted * zoom * about.spacing[axis] * 0.92, half = lengths[side] / 2 / pixels, middle = low[axis] + sides[axis] / 2;
     const room = Math.max(0, sides[axis] / 2 - half * 0.92);
     const centre = zoom > 1 ? Math.min(Math.max(at[axis] + 0.5, middle - room), middle + room) : middle;
-    const flipped = side === 1 && slice.up;
     return {
-      voxel: (pixel) => Math.floor(flipped ? centre + half - pixel / pixels : centre - half + pixel / pixels),
-      pixel: (voxel) => (flipped ? centre + half - voxel : voxel - centre + half) * pixels,
+      voxel: (pixel) => Math.floor(flips[side] ? centre + half - pixel / pixels : centre - half + pixel / pixels),
+      pixel: (voxel) => (flips[side] ? centre + half - voxel : voxel - centre + half) * pixels,
     };
   });
 }
@@ -124,7 +147,7 @@ function voxels(length, axis, voxel) {
 }
 
 function drawSlice(slice) {
-  const { canvas, axis, right, across } = slice;
+  const { canvas, axis, sides: [right, across] } = slice;
   if (!fit(canvas)) return;
   const { width, height } = canvas, context = canvas.getContext("2d"), [columns, rows] = placed(slice);
   const image = context.createImageData(width, height), pixels = new Uint32Array(image.data.buffer);
@@ -139,7 +162,7 @@ function drawSlice(slice) {
       place[across] = vs[row];
       for (let column = 0; column < width; column++) {
         place[right] = us[column];
-        pixels[start + column] = us[column] < 0 ? OUTSIDE : paint[cell(place[0], place[1], place[2])];
+        pixels[start + column] = us[column] < 0 ? OUTSIDE : pixel(place[0], place[1], place[2]);
       }
     }
   }
@@ -150,7 +173,7 @@ function drawSlice(slice) {
 }
 
 /** Draws the crosshair of a slice, with a gap at the voxel. */
-function cross(context, { right, across }, columns, rows) {
+function cross(context, { sides: [right, across] }, columns, rows) {
   const { width, height } = context.canvas, gap = 7 * devicePixelRatio;
   const x = Math.round(columns.pixel(at[right] + 0.5)) + 0.5, y = Math.round(rows.pixel(at[across] + 0.5)) + 0.5;
   context.lineWidth = Math.max(1, Math.round(devicePixelRatio));
@@ -182,11 +205,16 @@ function dragging(canvas, begin) {
 }
 
 function wireSlice(slice) {
-  const pane = $(`#${AXES[slice.axis]}`), { axis, right, across } = slice;
+  const pane = $(`#${AXES[slice.axis]}`), { name, axis, sides: [right, across], flips, edges } = slice;
+  pane.style.order = SLICES.indexOf(slice);
+  [...edges].forEach((letter, place) => {
+    pane.append(Object.assign(document.createElement("b"), { className: `edge ${["left", "right", "top", "bottom"][place]}`, textContent: letter }));
+  });
   Object.assign(slice, { pane, canvas: pane.querySelector("canvas"), range: pane.querySelector("input") });
-  pane.querySelector(".name").innerHTML = `${slice.name} &ensp;<span style="color: var(--${AXES[axis]})">${AXES[axis]} = <b></b></span>`;
+  pane.querySelector(".name").innerHTML = `<i></i><span style="color: var(--${AXES[axis]})">${AXES[axis]} = <b></b></span>`;
+  pane.querySelector("i").textContent = edges ? name : "";
   slice.title = pane.querySelector("b");
-  pane.querySelector(".axes").textContent = `${AXES[right]} \u2192  ${AXES[across]} ${slice.up ? "\u2191" : "\u2193"}`;
+  pane.querySelector(".axes").textContent = `${AXES[right]} ${flips[0] ? "\u2190" : "\u2192"}  ${AXES[across]} ${flips[1] ? "\u2191" : "\u2193"}`;
   Object.assign(slice.range, { min: low[axis], max: low[axis] + sides[axis] - 1 });
   slice.range.addEventListener("input", () => step(axis, slice.range.valueAsNumber - at[axis]));
   pane.addEventListener("pointerenter", () => choose(slice));
@@ -219,9 +247,9 @@ function zooming(by) {
 
 function key(event) {
   if (event.target.matches("input:not([type=checkbox]):not([type=range])") || event.ctrlKey || event.metaKey || event.altKey) return;
-  const by = event.shiftKey ? 10 : 1, { axis, right, across, up } = front, down = up ? -by : by;
+  const by = event.shiftKey ? 10 : 1, { axis, sides: [right, across], flips } = front, [left, up] = flips.map((flip) => flip ? by : -by);
   const keys = {
-    ArrowLeft: [right, -by], ArrowRight: [right, by], ArrowUp: [across, -down], ArrowDown: [across, down],
+    ArrowLeft: [right, left], ArrowRight: [right, -left], ArrowUp: [across, up], ArrowDown: [across, -up],
     PageUp: [axis, by], PageDown: [axis, -by], ".": [axis, by], ",": [axis, -by], ">": [axis, by], "<": [axis, -by],
   };
   if (keys[event.key]) step(...keys[event.key]);
@@ -257,8 +285,8 @@ function list(group) {
   box.checked = true;
   box.addEventListener("change", () => { show(group, box.checked); draw(); });
   chip.style.background = others ? "#555" : colourOf(group.number);
-  name.textContent = others ? `${text(group.labels)} others` : valueOf(group.number);
-  name.title = others ? "" : "go there";
+  name.textContent = others ? `${text(group.labels)} others` : `${valueOf(group.number)} ${nameOf(group.number)}`;
+  name.title = others ? "" : `go to ${name.textContent}`;
   name.addEventListener("click", () => group.middle && move(group.middle.map((part, axis) => part - about.origin[axis])));
   count.textContent = text(group.count);
   $("ul").append(row);
@@ -279,10 +307,12 @@ function panel() {
   }
   const more = about.labels > about.groups.length;
   $("#heading").textContent = more ? `${text(about.listed)} of ${text(about.labels)} labels` : `${text(about.labels)} label${about.labels === 1 ? "" : "s"}`;
-  if (about.map) {
-    $("#map").hidden = false;
-    $(".bar").style.background = `linear-gradient(to right, ${about.map.colours.join()})`;
-    about.map.ends.forEach((end, place) => { $(".ends").children[place].textContent = end; });
+  if (about.gray) {
+    const { file, step, window: ends } = about.gray, digits = Math.min(Math.max(2 - Math.floor(Math.log10(Math.abs(ends[1] - ends[0]))), 0), 20);
+    const [black, white] = ends.map((end) => Number(end.toFixed(digits)));
+    $("#over").hidden = false;
+    $("#over span").textContent = `over ${file}, ${black} to ${white}${step > 1 ? `, a voxel of ${step} along each axis` : ""}`;
+    $("#over input").addEventListener("input", (event) => { opacity = event.target.valueAsNumber; draw(); });
   }
   about.groups.forEach(list);
   $("#all").addEventListener("change", () => {
@@ -299,6 +329,7 @@ async function start() {
   paint = Uint32Array.from(data.active, (active, number) => active ? pixelOf(number) : EMPTY);
   panel();
   SLICES.forEach(wireSlice);
+  choose(front);
   try {
     faces = facesOf($("#space canvas"));
     root.dataset.faces = data.direction.length;

@@ -6,6 +6,7 @@ import base64
 import html
 import json
 import math
+import os
 import zlib
 from importlib.resources import files
 from typing import Any, BinaryIO, Dict, Iterable, Iterator, List, NamedTuple, Optional, Tuple, Union
@@ -14,15 +15,21 @@ import numpy as np
 
 from ..errors import RangeError
 from ..forms import COORDINATE_SPAN, SIDES
+from ..images import ROWS
+from ..label_names import Names, coloured
 from ..scenefile import Grid, picture
 from ..scenefile.faces import Faces, Show, chunked, faces, numbers_of
 from ..scenefile.mesh import merged
 from ..scenefile.tree import Leaves, Tiles, Tree
-from .common import text_of, world_of
+from .beneath import Gray
+from .common import anatomy_of, world_of
+from .panes import ends_of, panes_of
 
 MOST_VOXELS = 2**31
 MOST_FACES = 5_000_000
-#: How many labels have a row and a colour of their own.
+#: The most voxels of a gray image, of which else every second one is shown along each axis, or every third one.
+MOST_GRAY = 2**26
+#: How many labels have a row of their own.
 LISTED = 256
 #: By how many voxels the page shows more than the bounding box, on each side.
 MARGIN = 2
@@ -68,13 +75,16 @@ class Page:
     """
 
     def __init__(
-        self, grid: Grid, name: str, most_voxels: int = MOST_VOXELS, most_faces: int = MOST_FACES, show: "Optional[Show]" = None
-    ) -> None:
+        self, grid: Grid, name: str, most_voxels: int = MOST_VOXELS, most_faces: int = MOST_FACES, show: "Optional[Show]" = None,
+        names: Names = {}, gray: "Optional[Gray]" = None,
+    ) -> None:  # fmt: skip
         if grid.bounds is None:
             raise RangeError(f"no voxel of {name} is active")
-        self.grid, self.name, self.tree = grid, name, grid._tree
+        self.grid, self.name, self.tree, self.names, self.gray = grid, name, grid._tree, names, gray
         self.low = np.maximum(np.array(grid.bounds[0]) - MARGIN, -COORDINATE_SPAN)
         self.high = np.minimum(np.array(grid.bounds[1]) + MARGIN, COORDINATE_SPAN - 1)
+        if gray:
+            self.low, self.high = map(np.array, gray.around(grid.bounds))
         self.origin = self.low // 8 * 8
         self.blocks = (self.high - self.origin) // 8 + 1
         for what, voxels, most in (
@@ -141,40 +151,52 @@ class Page:
     def colours(self) -> np.ndarray:
         """Returns the colours of all cells (n x 3, uint8)."""
         made = np.zeros((len(self.cells.values), 3), np.uint8)
-        values = self.labels.values
-        made[1 : len(values) + 1] = picture.scaled_colours(values) if self.is_many else picture.colours_of(values)
+        made[1 : len(self.labels.values) + 1] = coloured(picture.colours_of(self.labels.values), self.labels.values, self.names)
         return made
 
     def arrays(self) -> "List[Array]":
         """Returns the arrays, those of longer elements first."""
         low, sides, direction, label = self.faces
-        active = np.zeros(len(self.cells.values), np.uint8)
-        active[1 : len(self.labels.values) + 1] = 1
+        active, counts = np.zeros(len(self.cells.values), np.uint8), np.zeros(len(self.cells.values), np.int64)
+        active[1 : len(self.labels.values) + 1], counts[1 : len(self.labels.values) + 1] = 1, self.labels.counts
         leaves = self.leaves()
         made = [
             array("values", self.cells.values), leaves, self.tiles(),
             Array("cells", self.cells.dtype, 512 * leaves.length, self.leaf_cells()),
             array("corners", (low - self.origin).T.astype(np.int32)), array("sides", sides.T),
             array("labels", (label + 1).astype(self.cells.dtype)), array("direction", direction), array("active", active),
-            array("colours", self.colours()),
+            array("colours", self.colours()), array("counts", counts),
         ]  # fmt: skip
+        if self.gray:
+            _, shape, parts = self.gray.coarse(MOST_GRAY)
+            made.append(Array("gray", np.dtype(np.uint8), math.prod(shape), parts))
         return sorted(made, key=lambda it: -it.dtype.itemsize)
+
+    def named(self) -> "Dict[int, str]":
+        """Returns the names of labels by their numbers."""
+        values = self.labels.values.tolist()
+        return {number: self.names[value].name for number, value in enumerate(values, 1) if value in self.names}
 
     def about(self, file: str, arrays: "List[Array]") -> "Dict[str, Any]":
         """Returns what the page says of the grid, as JSON holds it."""
-        affine = world_of(self.grid)
-        values, grid = self.labels.values, self.grid
+        affine, known = world_of(self.grid), anatomy_of(self.grid)
+        grid = self.grid
         made = {
             "name": self.name, "file": file, "kind": grid.kind, "count": grid.count, "bounds": grid.bounds, "low": self.low.tolist(),
             "high": self.high.tolist(), "origin": self.origin.tolist(), "at": [sum(ends) // 2 for ends in zip(*grid.bounds or ())],
-            "spacing": np.linalg.norm(affine[:, :3], axis=0).tolist(), "labels": len(values), "listed": min(LISTED, len(values)),
+            "spacing": np.linalg.norm(affine[:, :3], axis=0).tolist(), "labels": len(self.labels.values),
+            "listed": min(LISTED, len(self.labels.values)),
+            "panes": [pane._asdict() for pane in panes_of(known)], "ends": [] if known is None else ends_of(known), "names": self.named(),
+            "world": affine[:, :3].tolist(), "inverse": np.linalg.inv(affine[:, :3]).tolist(),
+            "mirrored": bool(np.linalg.det(affine[:, :3]) < 0),
             "arrays": [[it.name, f"{it.dtype.kind}{it.dtype.itemsize}", it.length] for it in arrays], "groups": self.groups,
         }  # fmt: skip
-        if "affine_x" in grid.metadata:
+        if ROWS[0] in grid.metadata or known is not None:
             made["affine"] = affine.tolist()
-        if self.is_many:
-            ends = [text_of(value) for value in values[[0, -1]].tolist()]
-            made["map"] = {"colours": ["#%02x%02x%02x" % colour for colour in picture.SCALE], "ends": ends}
+        if self.gray:
+            step, shape, _ = self.gray.coarse(MOST_GRAY)
+            made["gray"] = {"file": os.path.basename(self.gray.path), "low": np.subtract(self.gray.low, self.origin).tolist(), "shape": shape,
+                            "step": step, "window": self.gray.window}  # fmt: skip
         return made
 
     def write(self, out: BinaryIO, file: str) -> None:

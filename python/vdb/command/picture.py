@@ -28,6 +28,6 @@ def run(arguments: argparse.Namespace) -> None:
                 slices = picture.slices_of(file)
         if not slices:
             raise Problem(f"{path}: there is no slice among the answers")
-        pixels = picture.picture_of(slices)
+        data = picture.png(picture.picture_of(slices))
     with output(arguments.out) as file:
-        file.write(picture.png(pixels))
+        file.write(data)

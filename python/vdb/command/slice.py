@@ -2,63 +2,77 @@
 """Draws planes of a grid as a PNG, in a colour for each value.
 
 With --montage, or more than one --at, the planes stand in one picture with their coordinates and a legend of the labels.
-Inactive voxels are pale, and light grey if they have the background's value.
-x goes to the right and y down; across x or y, z goes down."""
+Inactive voxels are pale, and light grey if they have the background's value. Voxels keep their proportions.
+Across an axis of the voxels, x goes to the right and y down, or z down. Across axial, coronal or sagittal, which is the nearest
+axis by the affine, pictures are as in radiology: the left of the body is at the right, its front at the left or up, its head up."""
 from __future__ import annotations
 
 import argparse
-import numpy as np
+from typing import Any
 
-from ..forms import Bounds
+from ..errors import RangeError
+from ..forms import Bounds, check_coordinate
+from ..label_names import Names
 from ..scenefile import Grid, picture
 from ..scenefile.montage import Plane, montage
-from .common import Problem, about, add_bounds, add_max_bytes, add_scene_and_grid, box_of, count_word, grid_of, loaded, output
+from .beneath import Gray, gray_of
+from .common import Problem, about, add_bounds, add_image_and_out, anatomy_of, box_of, count_word, opened, output, world_of
+from .panes import PLANES, VOXELS, Pane, panes_of, proportions
 
-EXAMPLE = "slice scene.vdbs organs --axis z --at 12 organs.png"
+EXAMPLE = "slice labels.nii.gz --axis axial --montage 9 labels.png\n         vdb-scene slice scene.vdbs organs --axis z --at 12 organs.png"
 
 
 def add_arguments(parser: argparse.ArgumentParser) -> None:
-    add_scene_and_grid(parser)
-    parser.add_argument("out", metavar="OUT.png", help="the file for the picture; - for standard output")
-    parser.add_argument("--axis", required=True, choices="xyz", help="the axis across the planes")
+    add_image_and_out(parser, "OUT.png")
+    parser.add_argument("--axis", required=True, choices=[*"xyz", *PLANES], help="the axis across the planes, of the voxels or of anatomy")
     planes = parser.add_mutually_exclusive_group(required=True)
-    planes.add_argument("--at", action="append", type=int, metavar="N", help="the coordinate of the plane on that axis; more than one, "
-                        "as in --at 3 --at 9, are a montage")  # fmt: skip
+    planes.add_argument("--at", action="append", type=int, metavar="N", help="the coordinate of the plane on that axis, in voxels; more than "
+                        "one, as in --at 3 --at 9, are a montage")  # fmt: skip
     planes.add_argument("--montage", type=count_word, metavar="N", help="draw N planes at even steps, or all if there are fewer")
-    parser.add_argument("--scale", type=count_word, metavar="N", help="pixels along a voxel's side (default: 1 to 14, by the size)")
+    parser.add_argument("--scale", type=count_word, metavar="N", help="pixels along a voxel's shorter side (default: 1 to 14, by the size)")
     add_bounds(parser, "the box of which the planes are drawn")
-    add_max_bytes(parser)
 
 
 def run(arguments: argparse.Namespace) -> None:
-    grid = grid_of(loaded(arguments.file), arguments.file, arguments.grid)
-    box = box_of(arguments.bounds) or grid.bounds
+    path = arguments.file
+    name, grid, names = opened(arguments)
+    gray = gray_of(arguments, grid)
+    box = box_of(arguments.bounds) or (gray.around(grid.bounds) if gray else grid.bounds)
     if box is None:
-        raise Problem(f"{arguments.file}: no voxel of {arguments.grid} is active, so the picture needs --bounds")
-    axis = "xyz".index(arguments.axis)
-    first, last = box[0][axis], box[1][axis]
-    outside = [at for at in arguments.at or [] if not first <= at <= last]
-    if arguments.bounds and outside:
-        raise Problem(f"{arguments.file}: the plane {arguments.axis} = {outside[0]} lies outside the bounds")
-    with about(arguments.file):
-        pixels = drawn(grid, box, axis, arguments)
+        raise Problem(f"{path}: no voxel of {name} is active, so the picture needs --bounds")
+    with about(path):
+        pane = pane_of(grid, arguments.axis)
+        outside = [at for at in arguments.at or [] if not box[0][pane.axis] <= at <= box[1][pane.axis]]
+        if arguments.bounds and outside:
+            raise Problem(f"{path}: the plane {'xyz'[pane.axis]} = {outside[0]} lies outside the bounds")
+        data = picture.png(drawn(grid, gray, box, pane, names, arguments))
     with output(arguments.out) as file:
-        file.write(picture.png(pixels))
+        file.write(data)
 
 
-def drawn(grid: Grid, box: Bounds, axis: int, arguments: argparse.Namespace) -> np.ndarray:
-    """Returns the pixels of planes of a box across an axis. The first axis that is left goes to the right, the second one down."""
-    width, height = (last - first + 1 for other, (first, last) in enumerate(zip(*box)) if other != axis)
-    first, length = box[0][axis], box[1][axis] - box[0][axis] + 1
+def pane_of(grid: Grid, axis: str) -> Pane:
+    """Returns how planes across an axis of the voxels or of anatomy are turned."""
+    affine = anatomy_of(grid)
+    if axis in PLANES and affine is None:
+        raise RangeError("its affine says nothing of anatomy, so --axis is x, y or z")
+    return next(pane for pane in (panes_of(affine) if axis in PLANES else VOXELS) if pane.name == axis)
+
+
+def drawn(grid: Grid, gray: "Gray | None", box: Bounds, pane: Pane, names: Names, arguments: argparse.Namespace) -> Any:
+    """Returns the picture of planes of a box."""
+    spacing = proportions(world_of(grid))[[*pane.sides]]
+    width, height = ((box[1][side] - box[0][side] + 1) * each / spacing.min() for side, each in zip(pane.sides, spacing.tolist()))
+    first, length = box[0][pane.axis], box[1][pane.axis] - box[0][pane.axis] + 1
     count = len(arguments.at) if arguments.at else min(arguments.montage, length)
     is_montage = not arguments.at or count > 1
     scale = arguments.scale or max(1, min(picture.SIDE, (256 if is_montage else 512) // max(width, height)))
-    picture.check_size(width * scale, height * scale * count)
+    size = max(1, round(width * scale)), max(1, round(height * scale))
+    picture.check_size(size[0], size[1] * count)
     planes = []
     for at in arguments.at or [first + (2 * place + 1) * length // (2 * count) for place in range(count)]:
-        low, high = ((*corner[:axis], at, *corner[axis + 1 :]) for corner in box)
-        values, active = (array.take(0, axis=axis).T for array in grid.to_array((low, high), max_bytes=arguments.max_bytes))
-        planes.append(Plane(f"{arguments.axis} = {at}", values, active))
+        low, high = (check_coordinate([*corner[: pane.axis], at, *corner[pane.axis + 1 :]], "corner") for corner in box)
+        arrays = [*grid.to_array((low, high), max_bytes=arguments.max_bytes), *([gray.within((low, high))] if gray else [])]
+        planes.append(Plane(f"{arguments.axis + ', ' if pane.edges else ''}{'xyz'[pane.axis]} = {at}", *map(pane.plane, arrays)))
     if is_montage:
-        return montage(planes, grid.background, scale)
-    return picture.labels_of(planes[0].values, planes[0].active, grid.background, scale)
+        return montage(planes, grid.background, size, names)
+    return picture.labels_of(planes[0], grid.background, size, names)

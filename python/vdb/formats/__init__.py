@@ -4,23 +4,28 @@
     import vdb
     from vdb import formats
     grid = formats.load("labels.nii.gz", vdb.Grid)
-    formats.save("labels.nrrd", grid, bounds=((0, 0, 0), (255, 255, 127)))
+    formats.save("organ.nii.gz", grid.select(5))
 
-A grid keeps the affine of a file, which maps coordinates to the world, as the metadata pairs affine_x, affine_y and affine_z. It goes into
-the files that keep one. Values are booleans and integers: floats are converted if all of them are integers, and are an error otherwise.
+A grid keeps what a file says of its image as metadata pairs (vdb.images): affine, shape, dtype, units and codes, as far as the formats have
+them. So the image comes back as it was. Values are booleans and integers: floats are converted if all of them are integers, and are an
+error otherwise.
 """
 from __future__ import annotations
 
 import contextlib
 import os
+import warnings
 from typing import Any, BinaryIO, Dict, Iterator, Mapping, Protocol, Sequence, Tuple, Type, TypeVar
 
-from ..errors import FileError, RangeError, VdbError, VolumeError
+import numpy as np
+
+from ..errors import DtypeError, FileError, GeometryError, RangeError, VdbError, VdbWarning, VolumeError
 from ..files import naming, replacing
-from ..forms import DEFAULT_LIMIT, Array, Value, check_bounds, check_coordinate, kind_of
+from ..forms import DEFAULT_LIMIT, Array, Bounds, Coordinate, Progress, Value, check_bounds, check_coordinate, kind_of
+from ..images import DTYPES, Image, affine_of, moved, rows_of
 from ..reading import MAX_BYTES, Readable
 from . import nifti, npy, nrrd, tiff, vti
-from .volume import Volume, affine_of, as_kind, keep_affine, moved
+from .volume import CHUNK, Volume, as_kind
 
 __all__ = ["load", "save", "read", "write", "Volume", "FORMATS"]
 
@@ -30,7 +35,7 @@ G = TypeVar("G", bound=Readable)
 class Format(Protocol):
     """A module of this folder, which reads and writes the files of a format."""
 
-    def read(self, path: str, max_bytes: int) -> Volume: ...
+    def read(self, path: str, max_bytes: int, floats: bool = False) -> Volume: ...
 
     def write(self, file: BinaryIO, _path: str, volume: Volume) -> None: ...
 
@@ -70,19 +75,33 @@ def reading(path: str) -> Iterator[None]:
         raise VolumeError(f"{type(cause).__name__}: {cause}", path) from error
 
 
-def read(path: "str | os.PathLike[str]", max_bytes: int = MAX_BYTES) -> Volume:
-    """Returns the array of a file with its place.
+def read(path: "str | os.PathLike[str]", max_bytes: int = MAX_BYTES, floats: bool = False) -> Volume:
+    """Returns the array of a file with its place. With `floats`, its values may be any numbers, and are integers otherwise.
 
     Raises VolumeError for a fault or for values that no grid holds, and ArrayTooLargeError, before the array is made, if it has more
     than `max_bytes` bytes. Raises FileError if the file can't be read, and ImportError if a package is missing.
+
+    Examples
+    --------
+    >>> np.save("a.npy", np.eye(3, dtype=np.int16)[None])
+    >>> formats.read("a.npy").values.shape
+    (1, 3, 3)
     """
     made, name = format_of(path), os.fspath(path)
     with reading(name):
-        return made.read(name, max_bytes)
+        open(name, "rb").close()  # a package may have an error of its own for a file that can't be read
+        return made.read(name, max_bytes, floats)
 
 
 def write(path: "str | os.PathLike[str]", volume: Volume) -> None:
-    """Writes an array with its place to a file. Raises FileError if the file can't be written; an existing file stays as it was then."""
+    """Writes an array with its place to a file. Raises FileError if the file can't be written; an existing file stays as it was then.
+
+    Examples
+    --------
+    >>> formats.write("b.nrrd", formats.Volume(np.arange(6).reshape(1, 2, 3), np.eye(3, 4), (7, 8, 9)))
+    >>> formats.read("b.nrrd").origin
+    (7, 8, 9)
+    """
     made, name = format_of(path), os.fspath(path)
     with reading(name), replacing(name) as file:
         made.write(file, name, volume)
@@ -99,19 +118,30 @@ def load(
     metadata: "Mapping[str, str] | None" = None,
     kind: Any = None,
     max_bytes: int = MAX_BYTES,
+    progress: "Progress | None" = None,
 ) -> G:
-    """Returns a file as a grid of a class, `vdb.Grid` or `vdb.scenefile.Grid`.
+    """Returns a file as a grid of a class, `vdb.Grid`, `vdb.Mask` or one of `vdb.scenefile`.
 
-    `active`, `background` and `limit` are those of `from_array`. `origin` is the coordinate of the first voxel; without it, the one that
-    the file keeps, else (0, 0, 0). `metadata` are pairs; the affine of the file replaces theirs. `kind` is the type of the grid, if it isn't
-    the narrowest for the file's values. Raises the errors of `read` and `from_array`.
+    `active`, `background`, `limit` and `progress` are those of `from_array`. `origin` is the coordinate of the first voxel; without it, the one that
+    the file keeps, else (0, 0, 0). `metadata` are pairs; those of the file's image replace theirs. `kind` is the type of the grid, if it
+    isn't the narrowest for the file's values. Raises the errors of `read` and `from_array`, and LimitError if there are more than 16 pairs.
+
+    Examples
+    --------
+    >>> formats.write("labels.nrrd", formats.Volume(np.ones((4, 5, 6), np.uint8)))
+    >>> grid = formats.load("labels.nrrd", vdb.Grid)
+    >>> grid.image.shape, str(grid.image.dtype), (grid == 1).count
+    ((4, 5, 6), 'uint8', 120)
     """
     volume = read(path, max_bytes)
     at = volume.origin or (0, 0, 0) if origin is None else check_coordinate(origin, "origin")
     values = volume.values if kind is None else as_kind(volume.values, kind_of(kind))
-    grid = form.from_array(values, active, at, background, limit, metadata)  # type: ignore[attr-defined]
+    grid = form.from_array(values, active, at, background, limit, metadata, progress)  # type: ignore[attr-defined]
+    dtype = volume.dtype if volume.dtype is not None and volume.dtype.name in DTYPES else volume.values.dtype
+    affine = affine_of(grid.metadata)
     if volume.affine is not None:
-        keep_affine(grid.metadata, moved(volume.affine, [-part for part in at]))
+        affine = moved(affine_of(rows_of(volume.affine)), [-part for part in at])  # of the numbers that the pairs keep
+    Image(at, values.shape, dtype, affine, volume.notes).keep(grid.metadata)  # type: ignore[arg-type]
     return grid
 
 
@@ -123,17 +153,36 @@ def save(
     bounds: "Sequence[Sequence[int]] | None" = None,
     fill: "Value | None" = None,
     dtype: Any = None,
+    strict: bool = False,
+    values_only: bool = False,
     max_bytes: int = MAX_BYTES,
+    progress: "Progress | None" = None,
 ) -> Volume:
-    """Writes the values of a box of a grid to a file, and the states to the file `active`. Returns the values with their place.
+    """Writes the values of a grid to a file, and the states to the file `active`. Returns the values with their place.
 
-    `bounds`, `fill`, `dtype` and `max_bytes` are those of `to_array`. Raises the errors of `write` and `to_array`, and VolumeError if the
-    metadata pairs of the affine have another form.
+    A grid of an image is written as the whole image in its dtype, unless `bounds` or `dtype` say otherwise; any other grid as its bounding
+    box. Active voxels outside the image are a VdbWarning, or with `strict` a GeometryError. `bounds`, `fill`, `dtype` and `max_bytes` are
+    those of `to_array`. `progress` is called with the number of voxels that are read, and of all.
+
+    A file of values shows no states. So without `active` or `values_only` a bool grid whose values and states differ is a RangeError: save
+    a `Mask` of it. Active voxels of an integer grid that have the background, as after `dilate`, are a VdbWarning.
+
+    Raises the errors of `write` and `to_array`, RangeError with a value that the dtype doesn't hold and its coordinate, and VolumeError if
+    the metadata pairs of the image have another form.
+
+    Examples
+    --------
+    >>> mask = vdb.Mask.from_array(np.ones((4, 4, 4), bool))
+    >>> mask.dilate(2)
+    >>> formats.save("mask.npy", mask).origin, np.load("mask.npy").shape, int(np.load("mask.npy").sum())
+    ((-2, -2, -2), (8, 8, 8), 304)
     """
     for name in (path, active):
         if name is not None:
             format_of(name)
-    volume, states = volume_of(grid, bounds, fill, dtype, max_bytes)
+    volume, states = volume_of(grid, bounds, fill, dtype, max_bytes, strict, progress)
+    if active is None and not values_only:
+        check_shown(grid, volume.values, states.values, fill)
     write(path, volume)
     if active is not None:
         write(active, states)
@@ -141,11 +190,91 @@ def save(
 
 
 def volume_of(
-    grid: Readable, bounds: "Sequence[Sequence[int]] | None", fill: "Value | None", dtype: Any, max_bytes: int
-) -> "Tuple[Volume, Volume]":
-    """Returns the values and the states of a box of a grid with their place. The arguments and the errors are those of `save`."""
-    box = grid.bounds if bounds is None else check_bounds(bounds)
-    low = box[0] if box else (0, 0, 0)
+    grid: Readable, bounds: "Sequence[Sequence[int]] | None", fill: "Value | None", dtype: Any, max_bytes: int, strict: bool = False,
+    progress: "Progress | None" = None,
+) -> "Tuple[Volume, Volume]":  # fmt: skip
+    """Returns the values and the states of a grid with their place. The arguments and the errors are those of `save`."""
+    image = Image.of(grid.metadata)
+    box = check_bounds(bounds) if bounds is not None else image.bounds if image else grid.bounds
+    low = box[0] if box else image.low if image else (0, 0, 0)
+    form = dtype_of(dtype) if dtype is not None else image.dtype if image else grid.dtype
+    if image and not box:
+        values, states = np.empty(image.shape, form), np.empty(image.shape, np.bool_)
+    else:
+        values, states = arrays_of(grid, box, fill, form, max_bytes, progress)
+    outside = grid.count - np.count_nonzero(states) if image and bounds is None else 0
+    if outside:
+        told = f"{outside:,} active voxels lie outside the image, which is {image and image.bounds}, and aren't in the file"
+        if strict:
+            raise GeometryError(told)
+        warnings.warn(told, VdbWarning, stacklevel=3)
     affine = moved(affine_of(grid.metadata), low)
-    values, states = grid.to_array(box, fill, max_bytes, dtype=dtype)
-    return Volume(values, affine, low), Volume(states, affine, low)
+    if not image:
+        return Volume(values, affine, low), Volume(states, affine, low)
+    offset = low[0] - image.low[0], low[1] - image.low[1], low[2] - image.low[2]
+    return Volume(values, affine, low, image.notes, None, offset), Volume(states, affine, low, image.notes, None, offset)
+
+
+def check_shown(grid: Readable, values: np.ndarray, states: np.ndarray, fill: "Value | None") -> None:
+    """Raises RangeError if values of a bool grid differ from the states, and warns of active voxels with the value of inactive ones."""
+    if grid.kind == "bool":
+        differ = np.count_nonzero((values != 0) != states)
+        if differ:
+            raise RangeError(
+                f"the values and the states of {differ:,} voxels differ: save vdb.Mask(grid) for the states (--states), or with "
+                "values_only=True (--values-only) the values"
+            )
+        return
+    hidden = np.count_nonzero((values == (grid.background if fill is None else fill)) & states)
+    if hidden:
+        told = "dilate(n, value=..) and dilate_label give them a value, and values_only=True (--values-only) saves them as they are"
+        warnings.warn(f"{hidden:,} active voxels look like inactive ones in the file: {told}", VdbWarning, stacklevel=3)
+
+
+def dtype_of(dtype: Any) -> np.dtype:
+    """Returns a dtype that values are written in. Raises DtypeError for another."""
+    try:
+        form = np.dtype(dtype)
+    except TypeError:
+        raise DtypeError(f"{dtype!r} is no dtype") from None
+    if form.name not in DTYPES:
+        raise DtypeError(f"the dtype of values in a file is one of {', '.join(DTYPES)}, not {form}")
+    return form
+
+
+def arrays_of(
+    grid: Readable, box: "Bounds | None", fill: "Value | None", form: np.dtype, max_bytes: int, progress: "Progress | None" = None
+) -> "Tuple[np.ndarray, np.ndarray]":
+    """Returns the values of a box in a dtype, and the states. Raises RangeError with the first value that it doesn't hold."""
+    if form.kind in "iu" or np.can_cast(grid.dtype, form, "safe"):
+        try:
+            return grid.to_array(box, fill, max_bytes, dtype=form, progress=progress)
+        except RangeError:
+            for values, low in slabs(grid, box, fill):
+                refuse(values, low, form)
+            raise
+    values, states = grid.to_array(box, fill, max_bytes, progress=progress)
+    refuse(values, box[0] if box else (0, 0, 0), form)
+    return values.astype(form), states
+
+
+def slabs(grid: Readable, box: "Bounds | None", fill: "Value | None") -> "Iterator[Tuple[np.ndarray, Coordinate]]":
+    """Yields the values of a box by slabs along x, each with the coordinate of its first voxel."""
+    (x, y, z), high = box or ((0, 0, 0), (-1, -1, -1))
+    step = max(1, CHUNK // ((high[1] - y + 1) * (high[2] - z + 1) or 1))
+    for first in range(x, high[0] + 1, step):
+        yield grid.to_array(((first, y, z), (min(first + step - 1, high[0]), *high[1:])), fill)[0], (first, y, z)
+
+
+def refuse(values: np.ndarray, low: Coordinate, form: np.dtype) -> None:
+    """Raises RangeError with the first of some values that a dtype doesn't hold, and its coordinate. The first one lies at `low`."""
+    for index in range(0, len(values)):
+        part = values[index]
+        with np.errstate(all="ignore"):
+            good = part.astype(form).astype(np.int64) == part
+        if form == np.uint64:
+            good &= part >= 0
+        if not good.all():
+            y, z = np.argwhere(~good)[0].tolist()
+            at = low[0] + index, low[1] + y, low[2] + z
+            raise RangeError(f"the value {part[y, z]} at {at} is outside {form}: choose another dtype")

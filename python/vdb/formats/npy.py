@@ -15,7 +15,7 @@ from .volume import Volume, allow, check_room, flat, integers
 FORMAT = np.lib.format
 
 
-def read(path: str, max_bytes: int) -> Volume:
+def read(path: str, max_bytes: int, floats: bool = False) -> Volume:
     """Returns the array of a file, which stays in the file where it can. Raises VolumeError for a fault, before any array is made."""
     with open(path, "rb") as file:
         shape, in_columns, dtype = header(file)
@@ -29,7 +29,7 @@ def read(path: str, max_bytes: int) -> Volume:
     if not needed:
         return Volume(np.zeros(sides, dtype))
     values = np.memmap(path, dtype, "r", begins, sides, "F" if in_columns else "C")
-    return Volume(integers(values))
+    return Volume(integers(values, floats=floats), dtype=dtype)
 
 
 def header(file: BinaryIO) -> Tuple[Tuple[int, ...], bool, np.dtype]:

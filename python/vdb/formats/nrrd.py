@@ -2,7 +2,7 @@
 """NRRD files of the encodings raw and gzip: `.nrrd`, and `.nhdr` with the values in another file, which is only read.
 
 The format is defined at https://teem.sourceforge.net/nrrd/format.html. An affine of the spaces LPS and LAS is turned to RAS, the space of
-NIfTI; other spaces are taken as they are.
+NIfTI; other spaces are taken as they are. A note of the image keeps the space, in which it is written again.
 """
 from __future__ import annotations
 
@@ -11,11 +11,14 @@ import math
 import os
 import re
 from typing import BinaryIO, Dict, Optional, Tuple
+from urllib.parse import quote, unquote
 
 import numpy as np
 
 from ..errors import VolumeError
-from .volume import Volume, allow, check_room, flat, identity, integers, number_of, planes, stored
+from ..forms import TEXT_FORM
+from ..images import identity, number_of
+from .volume import Volume, allow, check_room, flat, integers, planes, stored
 
 #: The most bytes of a header.
 HEADER = 2**16
@@ -36,10 +39,14 @@ TYPES = {
     }.items()
     for word in words.split("|")
 }
-WORDS = {"i1": "int8", "u1": "uint8", "i2": "int16", "u2": "uint16", "i4": "int32", "u4": "uint32", "i8": "int64", "u8": "uint64"}
+WORDS = {
+    "i1": "int8", "u1": "uint8", "i2": "int16", "u2": "uint16", "i4": "int32", "u4": "uint32", "i8": "int64", "u8": "uint64", "f4": "float",
+    "f8": "double",
+}  # fmt: skip
 #: The signs of the first two rows of an affine, by which a space becomes RAS.
+RAS = "right-anterior-superior"
 SPACES = {
-    "right-anterior-superior": (1, 1), "ras": (1, 1), "left-anterior-superior": (-1, 1), "las": (-1, 1), "left-posterior-superior": (-1, -1),
+    RAS: (1, 1), "ras": (1, 1), "left-anterior-superior": (-1, 1), "las": (-1, 1), "left-posterior-superior": (-1, -1),
     "lps": (-1, -1),
 }  # fmt: skip
 ORIGIN = "vdb_origin"
@@ -47,7 +54,7 @@ ORIGIN = "vdb_origin"
 Fields = Dict[str, str]
 
 
-def read(path: str, max_bytes: int) -> Volume:
+def read(path: str, max_bytes: int, floats: bool = False) -> Volume:
     """Returns the array of a file."""
     with open(path, "rb") as file:
         fields = header(file)
@@ -55,7 +62,9 @@ def read(path: str, max_bytes: int) -> Volume:
     sides, dtype = shape_of(fields), dtype_of(fields)
     allow(sides, dtype, max_bytes)
     raw = values_of(data or path, 0 if data else begins, fields, math.prod(sides) * dtype.itemsize)
-    return Volume(integers(raw.view(dtype).reshape(sides, order="F")), affine_of(fields), origin_of(fields))
+    affine = affine_of(fields)
+    notes = {} if affine is None else notes_of(fields)
+    return Volume(integers(raw.view(dtype).reshape(sides, order="F"), floats=floats), affine, origin_of(fields), notes, dtype)
 
 
 def header(file: BinaryIO) -> Fields:
@@ -183,8 +192,20 @@ def affine_of(fields: Fields) -> Optional[np.ndarray]:
         made[:, :3] = np.diag([size if np.isfinite(size) and size else 1 for size in [*sizes, 1, 1]][:3])
     else:
         return None
-    signs = SPACES.get(fields.get("space", "").lower(), (1, 1))
-    return made * np.array([*signs, 1])[:, None]
+    return made * signs_of(fields.get("space", ""))
+
+
+def signs_of(space: str) -> np.ndarray:
+    """Returns the signs of the rows (3 x 1) by which an affine of a space becomes one of RAS, and back."""
+    return np.array([*SPACES.get(space.lower(), (1, 1)), 1])[:, None]
+
+
+def notes_of(fields: Fields) -> Dict[str, str]:
+    """Returns the space and the units of a header, by the keys of vdb.images.NOTES."""
+    units = [quote(unit) for unit in re.findall(r'"([^"]*)"', fields.get("spaceunits", ""))]
+    space = fields.get("space", "")
+    notes = {"image_space": "" if space.lower() in ("ras", RAS) else space, "image_units": ",".join(units[:1] if len({*units}) == 1 else units)}
+    return {key: text for key, text in notes.items() if TEXT_FORM.match(text.encode())}
 
 
 def vector(text: str) -> "list[float]":
@@ -208,14 +229,17 @@ def write(file: BinaryIO, path: str, volume: Volume) -> None:
     values = stored(volume.values)
     if path.lower().endswith(".nhdr") or not values.size:
         raise VolumeError("a .nhdr is only read: write a .nrrd" if values.size else "a NRRD file has at least one voxel")
-    affine = identity() if volume.affine is None else volume.affine
+    space, units = volume.notes.get("image_space", RAS), volume.notes.get("image_units", "")
+    affine = (identity() if volume.affine is None else volume.affine) * signs_of(space)
     vectors = ["(" + ",".join(map(number_of, column)) + ")" for column in affine.T.tolist()]
     lines = [
-        "NRRD0004", f"type: {WORDS[values.dtype.str[1:]]}", "dimension: 3", "space: right-anterior-superior",
+        "NRRD0004", f"type: {WORDS[values.dtype.str[1:]]}", "dimension: 3", f"space: {space}",
         f"sizes: {' '.join(map(str, values.shape))}", f"space directions: {' '.join(vectors[:3])}", "kinds: domain domain domain",
         "endian: little", "encoding: gzip", f"space origin: {vectors[3]}",
     ]  # fmt: skip
-    if volume.origin:
+    if units:
+        lines.append("space units: " + " ".join(f'"{unquote(unit)}"' for unit in (units.split(",") * 3)[:3]))
+    if volume.origin and any(volume.origin):
         lines.append(f"{ORIGIN}:={' '.join(map(str, volume.origin))}")
     file.write("\n".join([*lines, "", ""]).encode())
     with gzip.GzipFile("", "wb", 6, file, 0) as deflated:

@@ -25,7 +25,7 @@ def tifffile() -> Any:
     return package("tifffile", "python3-tifffile")
 
 
-def read(path: str, max_bytes: int) -> Volume:
+def read(path: str, max_bytes: int, floats: bool = False) -> Volume:
     """Returns the stack of a file."""
     with quiet(*LOGGERS), tifffile().TiffFile(path) as file:
         if len(file.series) != 1:
@@ -42,8 +42,8 @@ def read(path: str, max_bytes: int) -> Volume:
             check_room(size - begins, count)
         if series.keyframe.compression == UNCOMPRESSED:
             check_room(size, math.prod(sides) * series.dtype.itemsize // (8 if series.dtype == np.bool_ else 1))
-        values = integers(series.asarray().reshape(sides[::-1]).T)
-        return placed(values, (file.shaped_metadata or [{}])[0])
+        values = integers(series.asarray().reshape(sides[::-1]).T, floats=floats)
+        return placed(values, (file.shaped_metadata or [{}])[0])._replace(dtype=series.dtype)
 
 
 def placed(values: np.ndarray, about: "Mapping[str, Any]") -> Volume:

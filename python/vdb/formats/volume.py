@@ -1,12 +1,12 @@
 # SPDX-License-Identifier: Apache-2.0
-"""A dense array with its place in the world, and the metadata pairs that keep the place in a scene file."""
+"""A dense array with its place in the world, and what the modules of the formats share."""
 from __future__ import annotations
 
 import contextlib
 import importlib
 import logging
 import math
-from typing import Any, Iterator, MutableMapping, NamedTuple, NoReturn, Optional, Sequence, Tuple
+from typing import Any, Iterator, Mapping, NamedTuple, NoReturn, Optional, Sequence, Tuple
 
 import numpy as np
 
@@ -14,10 +14,6 @@ from ..errors import RangeError, VolumeError
 from ..forms import Coordinate, Kind
 from ..reading import check_bytes
 
-#: The keys of the three rows of a grid's affine. Each text is four numbers with a comma between each two.
-ROWS = ("affine_x", "affine_y", "affine_z")
-#: The most characters of a row.
-ROW = 63
 #: How many voxels are converted at a time, about.
 CHUNK = 1 << 20
 #: How many bytes a deflated byte can become at most.
@@ -27,74 +23,28 @@ DEFLATION = 1032
 class Volume(NamedTuple):
     """A dense array with the axes x, y, z, of booleans or integers.
 
-    `affine` (3 x 4, float64) maps the index of a voxel to its place in the world. `origin` is the coordinate of the first voxel. Either is
-    None if the file doesn't say.
+    `affine` (3 x 4, float64) maps the INDEX of a voxel to its place in the world. `origin` is the coordinate of the first voxel. Either is
+    None if the file doesn't say. `notes` are texts by the keys of vdb.images.NOTES, of an image in which the first voxel has the index
+    `offset`. `dtype` is that of the values in the file, if it isn't the array's.
+
+    Examples
+    --------
+    >>> volume = formats.Volume(np.zeros((2, 3, 4), bool), origin=(5, 0, 0))
+    >>> volume.values.shape, volume.affine is None
+    ((2, 3, 4), True)
     """
 
     values: np.ndarray
     affine: "np.ndarray | None" = None
     origin: Optional[Coordinate] = None
-
-
-def identity() -> np.ndarray:
-    """Returns the affine (3 x 4) that maps each index to itself."""
-    return np.eye(3, 4)
-
-
-def moved(affine: np.ndarray, offset: Sequence[float]) -> np.ndarray:
-    """Returns the affine that maps an index as `affine` maps the index plus an offset."""
-    made = affine.copy()
-    made[:, 3] += affine[:, :3] @ np.array(offset, np.float64)
-    return made
-
-
-def affine_of(metadata: "MutableMapping[str, str]") -> np.ndarray:
-    """Returns the affine (3 x 4) of metadata pairs, the identity if there are none. Raises VolumeError if they are no affine."""
-    found = [metadata.get(key) for key in ROWS]
-    if found == [None] * 3:
-        return identity()
-    try:
-        made = np.array([[float(word) for word in (text or "").split(",")] for text in found], np.float64)
-    except ValueError:
-        made = np.zeros(0)
-    if made.shape != (3, 4) or not np.isfinite(made).all():
-        raise VolumeError(f"the pairs {', '.join(ROWS)} aren't four numbers each, with commas between them: {found}")
-    return made
-
-
-def keep_affine(metadata: "MutableMapping[str, str]", affine: np.ndarray) -> None:
-    """Keeps an affine (3 x 4) as metadata pairs. The identity is kept by none. A number has all its digits, or at least eight.
-
-    Raises VolumeError if a number isn't finite, or the affine maps the axes into a plane, and LimitError if there is no room for pairs.
-    """
-    if not np.isfinite(affine).all() or np.linalg.matrix_rank(affine[:, :3]) < 3:
-        raise VolumeError(f"the affine has no inverse: {affine.tolist()}")
-    rows = [row_of(row.tolist()) for row in affine]
-    same = rows == [row_of(row.tolist()) for row in identity()]
-    for key, text in zip(ROWS, rows):
-        metadata.pop(key, None)
-        if not same:
-            metadata[key] = text
-
-
-def row_of(numbers: "list[float]") -> str:
-    """Returns the text of a row of an affine: the shortest numbers, of fewer digits if that is longer than ROW."""
-    texts = [",".join(number_of(it) for it in numbers)]
-    texts += [",".join(f"{it:.{digits}g}" for it in numbers) for digits in range(16, 7, -1)]
-    return next(text for text in texts if len(text) <= ROW)
-
-
-def number_of(value: float) -> str:
-    """Returns the shortest text of a number, as one of 32 bits if it is such a number."""
-    value += 0.0  # no sign of zero
-    with np.errstate(over="ignore"):
-        short = np.float32(value)
-    return (str(short) if float(short) == value else repr(value)).removesuffix(".0")
+    notes: Mapping[str, str] = {}
+    dtype: "np.dtype | None" = None
+    offset: Coordinate = (0, 0, 0)
 
 
 def stored(values: np.ndarray) -> np.ndarray:
-    """Returns values for a file, whose formats have bytes 0 and 1 in place of booleans."""
-    return values.view(np.uint8) if values.dtype == np.bool_ else values
+    """Returns values for a file, whose formats have bytes 0 and 1 in place of booleans, and no floats of 16 bits."""
+    return values.view(np.uint8) if values.dtype == np.bool_ else values.astype(np.float32) if values.dtype == np.float16 else values
 
 
 def planes(values: np.ndarray) -> "Iterator[np.ndarray]":
@@ -153,8 +103,8 @@ def holds(dtype: np.dtype) -> bool:
     return np.can_cast(dtype, np.int64, "safe")
 
 
-def integers(values: np.ndarray, slope: float = 1, shift: float = 0) -> np.ndarray:
-    """Returns numbers, each times a slope and plus a shift, as an array that a grid holds.
+def integers(values: np.ndarray, slope: float = 1, shift: float = 0, floats: bool = False) -> np.ndarray:
+    """Returns numbers, each times a slope and plus a shift, as an array that a grid holds, or with `floats` as any array.
 
     Raises VolumeError with the first number that isn't an integer of 64 bits, or 53 bits after the change, and its index. Raises it also
     for a dtype that isn't of such numbers.
@@ -164,6 +114,8 @@ def integers(values: np.ndarray, slope: float = 1, shift: float = 0) -> np.ndarr
         return values
     if values.dtype.kind not in "buif":
         raise VolumeError(f"values of the dtype {values.dtype}, which aren't single numbers")
+    if floats:
+        return values * np.float32(slope) + np.float32(shift) if changes else values
     made, low, high = np.empty(values.shape, np.int64), 0, 0
     most = 2.0**53 if changes else 2.0**63
     step = max(1, CHUNK // max(1, math.prod(values.shape[1:])))

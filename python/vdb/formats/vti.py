@@ -19,7 +19,8 @@ import numpy as np
 
 from ..errors import VolumeError
 from ..forms import Coordinate, check_coordinate
-from .volume import Volume, allow, check_room, identity, integers, moved, number_of, planes, stored
+from ..images import identity, moved, number_of
+from .volume import Volume, allow, check_room, integers, planes, stored
 
 Element = ElementTree.Element
 #: The dtypes by the words of the format.
@@ -43,7 +44,7 @@ HEAD = """\
    _"""
 
 
-def read(path: str, max_bytes: int) -> Volume:
+def read(path: str, max_bytes: int, floats: bool = False) -> Volume:
     """Returns the image of a file."""
     with open(path, "rb") as file:
         size = os.fstat(file.fileno()).st_size
@@ -59,7 +60,7 @@ def read(path: str, max_bytes: int) -> Volume:
     piece = only(image, "Piece")
     part, array = array_of(piece)
     low, sides = box_of(piece, part.tag == "CellData")
-    dtype = np.dtype(TYPES.get(array.get("type", ""), "V")).newbyteorder("<" if root.get("byte_order") == "LittleEndian" else ">")
+    dtype = np.dtype(TYPES.get(array.get("type", ""), "V")).newbyteorder(order_of(root))  # type: ignore[arg-type]
     if dtype.kind == "V" or int(array.get("NumberOfComponents") or 1) != 1:
         raise VolumeError(f"values of the type {array.get('type')}, {array.get('NumberOfComponents') or 1} a voxel, where a grid takes numbers")
     allow(sides, dtype, max_bytes)
@@ -67,7 +68,15 @@ def read(path: str, max_bytes: int) -> Volume:
     affine = affine_of(image)
     if part.tag == "CellData":
         affine = moved(affine, (0.5, 0.5, 0.5))
-    return Volume(integers(values.reshape(sides, order="F")), moved(affine, low), low)
+    return Volume(integers(values.reshape(sides, order="F"), floats=floats), moved(affine, low), low, dtype=dtype)
+
+
+def order_of(root: Element) -> str:
+    """Returns the letter for the order of bytes. Raises VolumeError if the file doesn't say it."""
+    order = {"LittleEndian": "<", "BigEndian": ">"}.get(root.get("byte_order", ""))
+    if order is None:
+        raise VolumeError(f"the byte_order {root.get('byte_order')}, neither LittleEndian nor BigEndian")
+    return order
 
 
 def appended(data: bytes) -> Tuple[int, int]:
@@ -168,7 +177,7 @@ def values_of(root: Element, array: Element, source: Source, dtype: np.dtype, vo
     word = {"UInt32": "I", "UInt64": "Q"}.get(root.get("header_type") or "UInt32")
     if word is None or root.get("compressor") not in (None, "", ZLIB):
         raise VolumeError(f"the header {root.get('header_type')} and the compressor {root.get('compressor')}, where {ZLIB} is read")
-    form = ("<" if root.get("byte_order") == "LittleEndian" else ">") + word
+    form = order_of(root) + word
     needed = voxels * dtype.itemsize
     check_room(len(source.data), needed, bool(root.get("compressor")))
     data = inflated(source, form, needed) if root.get("compressor") else plain(source, form, needed)
@@ -198,8 +207,9 @@ def inflated(source: Source, form: str, needed: int) -> bytearray:
     check_room(len(source.data), sum(lengths))
     data, made, at = source.take(sum(lengths)), bytearray(), 0
     for length, wanted in zip(lengths, sizes):
-        part = zlib.decompressobj().decompress(data[at : at + length], wanted + 1)
-        if len(part) != wanted:
+        stream = zlib.decompressobj()
+        part = stream.decompress(data[at : at + length], wanted + 1)
+        if len(part) != wanted or not stream.eof:  # the checksum is at its end
             raise VolumeError(f"a block of {wanted:,} bytes of values has another length")
         made += part
         at += length

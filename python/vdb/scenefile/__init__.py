@@ -11,7 +11,7 @@ docs/FORMAT.md of the repository defines the files. Names that `vdb` has too mea
 """
 from ..blocks import Boxes, Labels
 from ..forms import Leaf, Metadata
-from .grid import Grid, Tile
+from .grid import Grid, Mask, Tile
 from .scene import Scene, load, loads
 
-__all__ = ["load", "loads", "Scene", "Grid", "Boxes", "Labels", "Leaf", "Tile", "Metadata"]
+__all__ = ["load", "loads", "Scene", "Grid", "Mask", "Boxes", "Labels", "Leaf", "Tile", "Metadata"]

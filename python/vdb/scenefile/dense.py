@@ -2,22 +2,25 @@
 """Dense arrays into trees, and trees into dense arrays. Axes are x, y, z."""
 from __future__ import annotations
 
+import math
 from typing import Iterator
 
 import numpy as np
 
-from ..forms import SIDES, Coordinate, Kind, Value, narrow
+from ..forms import SIDES, Coordinate, Kind, Progress, Value, narrow
 from .tree import CODE_BITS, Leaves, Tiles, Tree, collapse, empty_tree
 
 #: How many voxels along x are handled at once, and how many of a root block are few.
 SLAB, FEW = 16, 2**20
 
 
-def tree_of(kind: Kind, values: np.ndarray, active: "np.ndarray | None", origin: "tuple[int, int, int]", background) -> Tree:
+def tree_of(
+    kind: Kind, values: np.ndarray, active: "np.ndarray | None", origin: "tuple[int, int, int]", background, progress: "Progress | None" = None
+) -> Tree:
     """Returns the tree of a dense array whose first voxel lies at `origin`. Without `active`, what differs from the background is."""
     if values.size == 0:
         return empty_tree(kind, background)
-    source = Source(kind, values, active, origin, background)
+    source = Source(kind, values, active, origin, background, progress)
     roots: "list[tuple[int, int, int]]" = []
     for key in covering(origin, source.past, SIDES[2]):
         source.root_block(key, len(roots))
@@ -35,8 +38,11 @@ def covering(low, past, side: int) -> "Iterator[tuple[int, int, int]]":
 class Source:
     """Reads a dense array in block order, a lower extent at a time."""
 
-    def __init__(self, kind: Kind, values: np.ndarray, active: "np.ndarray | None", origin, background) -> None:
+    def __init__(
+        self, kind: Kind, values: np.ndarray, active: "np.ndarray | None", origin, background, progress: "Progress | None"
+    ) -> None:
         self.kind, self.background, self.origin = kind, background, origin
+        self.progress, self.done = progress, 0
         self.values, self.active = values, active
         self.past = tuple(at + side for at, side in zip(origin, values.shape))
         self.tile_parts: "list[tuple[np.ndarray, np.ndarray, np.ndarray]]" = []
@@ -52,9 +58,15 @@ class Source:
         low = [max(at, part * SIDES[2]) for at, part in zip(self.origin, key)]
         past = [min(at, (part + 1) * SIDES[2]) for at, part in zip(self.past, key)]
         if self.is_thin_background(low, past):
-            return
+            return self.report(low, past)
         for x, y, z in covering(low, past, SIDES[1]):
             self.lower_extent((x, y, z), place << 15 | (x & 31) << 10 | (y & 31) << 5 | z & 31)
+
+    def report(self, low: "list[int]", past: "list[int]") -> None:
+        """Reports a box of the array as done."""
+        self.done += math.prod(b - a for a, b in zip(low, past))
+        if self.progress:
+            self.progress(self.done, self.values.size)
 
     def is_thin_background(self, low: "list[int]", past: "list[int]") -> bool:
         """Says whether a box within the array has few voxels, and all of them are the inactive background. A long array of few voxels has
@@ -67,10 +79,12 @@ class Source:
 
     def lower_extent(self, number: "tuple[int, int, int]", code: int) -> None:
         """Reads the part of the array in a lower extent, a slab of SLAB voxels along x at a time: block order goes by x first."""
-        low = [max(at, part * SIDES[1]) // 8 * 8 for at, part in zip(self.origin, number)]
-        past = [-(-min(at, (part + 1) * SIDES[1]) // 8) * 8 for at, part in zip(self.past, number)]
+        first = [max(at, part * SIDES[1]) for at, part in zip(self.origin, number)]
+        last = [min(at, (part + 1) * SIDES[1]) for at, part in zip(self.past, number)]
+        low, past = [at // 8 * 8 for at in first], [-(-at // 8) * 8 for at in last]
         for x in range(low[0], past[0], SLAB):
             self.slab([x, *low[1:]], [min(x + SLAB, past[0]), *past[1:]], code)
+        self.report(first, last)
 
     def slab(self, low: "list[int]", past: "list[int]", code: int) -> None:
         """Reads the leaf extents in a box of whole ones. `code` is that of the lower extent."""

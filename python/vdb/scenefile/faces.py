@@ -19,7 +19,7 @@ CHUNK = 2048
 #: How many bits a code has below that of a leaf extent, a lower extent and an upper extent.
 SHIFTS = tuple(CODE_BITS[0] - bits for bits in CODE_BITS)
 #: A call with how many voxels of leaves are done, and of how many.
-Show = Callable[[int, int], None]
+Show = Callable[[int, int], object]
 
 
 class Faces(NamedTuple):

@@ -2,26 +2,37 @@
 """A grid: a value and a state for each voxel, with a root limit and metadata."""
 from __future__ import annotations
 
-from typing import Any, Iterator, Mapping, NamedTuple, Sequence
+from typing import Any, Callable, Iterator, Mapping, NamedTuple, Sequence, Type, TypeVar
 
 import numpy as np
 
+from .. import images
 from ..blocks import Cubes, Part, Rows
 from ..errors import RootLimitError
 from ..forms import (
-    DEFAULT_LIMIT, SIDES, Array, Bounds, Coordinate, Kind, Leaf, Metadata, Value, check_box, check_limit, check_states, kind_of,
+    DEFAULT_LIMIT, KINDS, SIDES, Array, Bounds, Coordinate, Kind, Leaf, Metadata, Progress, Value, check_box, check_limit, check_states, kind_of,
     kind_of_array,
 )  # fmt: skip
+from ..manners import no_truth
 from ..reading import Walkable
 from . import reports
 from .dense import fill_arrays, tree_of
+from .masks import mask_of
 from .tree import Tree, empty_tree
 
-__all__ = ["Grid", "Tile"]
+__all__ = ["Grid", "Mask", "Tile"]
+
+G = TypeVar("G", bound="Grid")
 
 
 class Tile(NamedTuple):
-    """A tile: the least coordinates, how many voxels it has along each axis (8, 128 or 4,096), its value and its state."""
+    """A tile: the least coordinates, how many voxels it has along each axis (8, 128 or 4,096), its value and its state.
+
+    Examples
+    --------
+    >>> list(scenefile.Grid.from_array(np.full((8, 8, 8), 5)).tiles())
+    [Tile(origin=(0, 0, 0), side=8, value=5, active=True)]
+    """
 
     origin: Coordinate
     side: int
@@ -35,6 +46,12 @@ class Grid(Walkable):
     An index is three integers or slices. They are coordinates in voxels, also negative ones; a slice includes its start and not its stop.
     An open end of a slice goes to the bounding box of the active voxels, and `...` is that box. `grid[...]` are values, and
     `grid.active[...]` states. The voxels of a grid don't change. Its root limit and metadata do.
+
+    Examples
+    --------
+    >>> grid = scenefile.Grid.from_array(np.array([[[5, 6]]]), origin=(1, 2, 3))
+    >>> grid[1, 2, 4], grid.count, grid.bounds
+    (6, 2, ((1, 2, 3), (1, 2, 4)))
     """
 
     def __init__(
@@ -57,9 +74,9 @@ class Grid(Walkable):
         self._metadata = Metadata(metadata)
 
     @classmethod
-    def _of(cls, tree: Tree, limit: int, metadata: "Mapping[str, str] | None" = None) -> "Grid":
-        made = cls(tree.kind.word, tree.background, limit, metadata)
-        made._tree = tree
+    def _of(cls: "Type[G]", tree: Tree, limit: int, metadata: "Mapping[str, str] | None" = None) -> "G":
+        made = cls.__new__(cls)
+        made._tree, made._metadata = tree, Metadata(metadata)
         made.limit = limit
         return made
 
@@ -72,13 +89,14 @@ class Grid(Walkable):
         background: "Value | None" = None,
         limit: int = DEFAULT_LIMIT,
         metadata: "Mapping[str, str] | None" = None,
+        progress: "Progress | None" = None,
     ) -> "Grid":
         """Makes a grid from a dense array with the axes x, y, z.
 
         `values` has the dtype bool (a bool grid), an integer of at most 32 bits signed or 16 bits unsigned (i32), or int64
         or uint32 (i64). `active` is a bool array of the same shape; without it, each voxel whose value differs from the
         background is active. `origin` is the coordinate of `values[0, 0, 0]`. Outside the array voxels are the background,
-        inactive.
+        inactive. `progress` is called with the number of voxels that are done, and of all.
 
         Raises DtypeError for another dtype, and RootLimitError if the grid needs more root blocks than `limit`. Raises
         RangeError for another shape, for coordinates outside 32 bits, or for a wrong background or limit.
@@ -88,7 +106,7 @@ class Grid(Walkable):
         background = cls(form.word, background, limit).background
         low = check_box(origin, values.shape)
         states = None if active is None else check_states(active, values.shape)
-        return cls._of(tree_of(form, values, states, low, background), limit, metadata)
+        return cls._of(tree_of(form, values, states, low, background, progress), limit, metadata)
 
     @property
     def _kind(self) -> Kind:  # type: ignore[override]
@@ -177,19 +195,58 @@ class Grid(Walkable):
             for (x, y, z), value, active in zip(origins, tiles.values.tolist(), tiles.active.tolist()):
                 yield Tile((x, y, z), side, value, active)
 
-    def copy(self) -> "Grid":
+    def copy(self: G) -> G:
         """Returns a second grid with the same cells, limit and metadata."""
-        return Grid._of(self._tree, self._limit, self._metadata)
+        return self._of(self._tree, self._limit, self._metadata)
 
     __copy__ = copy
 
-    def __deepcopy__(self, _memo: object) -> "Grid":
+    def __deepcopy__(self: G, _memo: object) -> G:
         return self.copy()
 
-    def __eq__(self, other: object) -> bool:
-        """Returns whether the other grid has the same type, background and cells. Limits and metadata may differ."""
+    def __eq__(self, other: object) -> Any:
+        """Returns whether the other grid has the same type, background and cells. Limits and metadata may differ. `grid == 3` is the mask
+        of the active voxels that are 3, and so are `!=`, `<`, `<=`, `>` and `>=` with a number."""
         if not isinstance(other, Grid):
-            return NotImplemented
+            return super().__eq__(other)
         return self._tree.equals(other._tree)
 
-    __hash__ = None  # type: ignore[assignment]
+    def _mask(self, is_chosen: "Callable[[np.ndarray], np.ndarray]") -> "Mask":
+        return Mask._of(mask_of(self._tree, is_chosen), self._limit, images.kept(self._metadata, KINDS["bool"].dtype))
+
+
+class Mask(Grid):
+    """A set of voxels: a bool grid in which the active voxels, and no others, are True. A comparison of a grid with a number makes one.
+
+    Examples
+    --------
+    >>> grid = scenefile.Grid.from_array(np.array([[[5, 6, 7]]]))
+    >>> (grid > 5)[...].tolist()
+    [[[True, True]]]
+    """
+
+    def __init__(self, grid: "Grid | None" = None, limit: "int | None" = None, metadata: "Mapping[str, str] | None" = None) -> None:
+        """Makes the mask of the active voxels of a grid, or an empty one. Limit and metadata are those of the grid unless given."""
+        if grid is None:
+            grid = Grid("bool", limit=DEFAULT_LIMIT if limit is None else limit, metadata=metadata)
+        pairs = grid.metadata if metadata is None else metadata
+        super().__init__("bool", metadata={**pairs, **images.kept(pairs, None if grid.kind == "bool" else KINDS["bool"].dtype)})
+        self._tree = mask_of(grid._tree, lambda values: np.ones(values.shape, np.bool_))
+        self.limit = grid.limit if limit is None else limit
+
+    @classmethod
+    def from_array(
+        cls,
+        values: Array,
+        active: "Array | None" = None,
+        origin: Sequence[int] = (0, 0, 0),
+        background: "Value | None" = None,
+        limit: int = DEFAULT_LIMIT,
+        metadata: "Mapping[str, str] | None" = None,
+        progress: "Progress | None" = None,
+    ) -> "Mask":
+        """Makes a mask from a dense array with the axes x, y, z: of its True voxels, or of those whose integer differs from the background,
+        or of the active ones if states are given. Arguments and errors are those of `Grid.from_array`."""
+        return cls(Grid.from_array(values, active, origin, background, limit, metadata, progress), metadata=metadata)
+
+    __bool__ = no_truth

@@ -1,16 +1,16 @@
 # SPDX-License-Identifier: Apache-2.0
-"""Pictures of slices as PNG files."""
+"""Pictures of slices, and the colours of labels. The package Pillow makes the pictures."""
 from __future__ import annotations
 
 import io
 import re
-import struct
-import zlib
-from typing import List, Optional, TextIO
+from typing import Any, List, NamedTuple, Optional, TextIO, Tuple
 
 import numpy as np
 
 from ..errors import RangeError
+from ..formats.volume import package
+from ..label_names import Names, coloured
 
 SIDE = 14  # of a cell's square in a picture of answers, in pixels, with a line of one pixel between squares
 GAP = 24  # around slices and between them, in pixels
@@ -30,18 +30,16 @@ def check_size(width: int, height: int) -> None:
         raise RangeError(f"a picture of {width:,} x {height:,} pixels needs {needed:,} bytes, more than {MAX_PIXELS:,}")
 
 
-def png(pixels: np.ndarray) -> bytes:
-    """Returns a PNG of pixels (height x width x 3, uint8)."""
+def pillow(module: str = "Image") -> Any:
+    """Returns a module of Pillow. Raises ImportError, which says where it is found, without that package."""
+    return package(f"PIL.{module}", "python3-pil")
 
-    def chunk(kind: bytes, content: bytes) -> bytes:
-        return struct.pack(">I", len(content)) + kind + content + struct.pack(">I", zlib.crc32(kind + content))
 
-    height, width, _ = pixels.shape
-    lines = np.zeros((height, 1 + 3 * width), np.uint8)  # each line begins with its filter, 0 for none
-    lines[:, 1:] = pixels.reshape(height, 3 * width)
-    header = struct.pack(">IIBBBBB", width, height, 8, 2, 0, 0, 0)
-    content = zlib.compress(lines.tobytes(), 9)
-    return b"\x89PNG\r\n\x1a\n" + chunk(b"IHDR", header) + chunk(b"IDAT", content) + chunk(b"IEND", b"")
+def png(image: Any) -> bytes:
+    """Returns the bytes of a picture as a PNG."""
+    file = io.BytesIO()
+    image.save(file, "PNG")
+    return file.getvalue()
 
 
 def slices_of(answers: TextIO) -> "list[Rows]":
@@ -79,23 +77,23 @@ def shade(value: int, least: int, greatest: int) -> "tuple[int, ...]":
     return tuple(round(pale + part * (dark - pale)) for pale, dark in zip(PALE, DARK))
 
 
-def picture_of(slices: "list[Rows]") -> np.ndarray:
-    """Returns the pixels of a picture: slices side by side, a square for a cell, with x to the right and y down."""
+def picture_of(slices: "list[Rows]") -> Any:
+    """Returns the picture of slices side by side, a square for a cell, with x to the right and y down."""
     values = [cell for rows in slices for row in rows for cell in row if cell is not None]
     least, greatest = min(values, default=0), max(values, default=0)
-    width = GAP + sum(max(map(len, rows)) * SIDE + GAP for rows in slices)
-    height = 2 * GAP + max(len(rows) for rows in slices) * SIDE
-    check_size(width, height)
-    pixels = np.full((height, width, 3), PAPER, np.uint8)
-    left = GAP
-    for rows in slices:
+    widths = [max(map(len, rows)) for rows in slices]
+    size = GAP + sum(width * SIDE + GAP for width in widths), 2 * GAP + max(len(rows) for rows in slices) * SIDE
+    check_size(*size)
+    made, left = pillow().new("RGB", size, PAPER), GAP
+    for rows, width in zip(slices, widths):
+        cells = np.full((len(rows), width, 3), PAPER, np.uint8)
         for y, row in enumerate(rows):
-            for x, cell in enumerate(row):
-                down, right = GAP + y * SIDE, left + x * SIDE
-                colour = INACTIVE if cell is None else shade(cell, least, greatest)
-                pixels[down : down + SIDE - 1, right : right + SIDE - 1] = colour
-        left += max(map(len, rows)) * SIDE + GAP
-    return pixels
+            cells[y, : len(row)] = [INACTIVE if cell is None else shade(cell, least, greatest) for cell in row]
+        squares = cells.repeat(SIDE, axis=0).repeat(SIDE, axis=1)
+        squares[SIDE - 1 :: SIDE] = squares[:, SIDE - 1 :: SIDE] = PAPER
+        made.paste(pillow().fromarray(squares), (left, GAP))
+        left += width * SIDE + GAP
+    return made
 
 
 def colours_of(values: np.ndarray) -> np.ndarray:
@@ -111,25 +109,27 @@ def colours_of(values: np.ndarray) -> np.ndarray:
     return np.stack([(255 * value * (0.25 + 0.75 * part)).astype(np.uint8) for part in parts], axis=-1)
 
 
-#: The colours of values from the least to the greatest one, at even steps, for grids of many values.
-SCALE = ((86, 72, 160), (62, 117, 178), (52, 160, 158), (122, 196, 104), (244, 226, 94))
+class Plane(NamedTuple):
+    """A plane of voxels: its title, its values and states, and the gray beneath them, if any (rows x columns; uint8)."""
+
+    title: str
+    values: np.ndarray
+    active: np.ndarray
+    gray: Optional[np.ndarray] = None
 
 
-def scaled_colours(values: np.ndarray) -> np.ndarray:
-    """Returns a colour (N x 3, uint8) for each of some values, by its place between the least and the greatest one."""
-    part = values.astype(np.float64)
-    part = (part - part.min()) / max(part.max() - part.min(), 1)
-    steps = np.linspace(0, 1, len(SCALE))
-    return np.stack([np.interp(part, steps, colour) for colour in zip(*SCALE)], axis=-1).round().astype(np.uint8)
+def labels_of(plane: Plane, background: "bool | int", size: "Tuple[int, int]", names: Names = {}) -> Any:
+    """Returns the picture of a plane, `size` pixels wide and high: a colour for each label, that of its name if it has one.
 
-
-def labels_of(values: np.ndarray, active: np.ndarray, background: "bool | int", scale: int) -> np.ndarray:
-    """Returns the pixels of a plane of voxels (rows x columns): a colour for each label, pale if the voxel is inactive.
-
-    Inactive voxels of the background are light grey. A voxel is a square of `scale` pixels.
+    Inactive voxels are pale, and light grey if they have the background's value. Over a gray image, colours let two fifths of it
+    through, and inactive voxels all.
     """
-    colours = colours_of(values)
-    pale = (colours.astype(np.uint16) + 3 * 255) // 4
-    pixels = np.where(active[..., None], colours, pale.astype(np.uint8))
-    pixels[~active & (values == background)] = INACTIVE
-    return pixels.repeat(scale, axis=0).repeat(scale, axis=1)
+    values, place = np.unique(plane.values, return_inverse=True)
+    colours = coloured(colours_of(values), values, names)[place].reshape(*plane.values.shape, 3).astype(np.uint16)
+    if plane.gray is None:
+        pixels = np.where(plane.active[..., None], colours, (colours + 3 * 255) // 4)
+        pixels[~plane.active & (plane.values == background)] = INACTIVE
+    else:
+        gray = plane.gray[..., None].astype(np.uint16)
+        pixels = np.where(plane.active[..., None], (3 * colours + 2 * gray) // 5, gray)
+    return pillow().fromarray(pixels.astype(np.uint8)).resize(size, pillow().Resampling.NEAREST)

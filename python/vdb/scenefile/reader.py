@@ -14,7 +14,7 @@ import numpy as np
 
 from .. import forms
 from ..errors import FAULTS, FormatError
-from ..forms import ENTRIES, KEY_SPAN, KIND_NUMBERS, MAX_FILE, Kind
+from ..forms import ENTRIES, KEY_SPAN, KIND_NUMBERS, MAX_FILE, Kind, Progress
 from .tree import Leaves, Tiles, Tree, chunks
 
 #: Zeros behind the last byte of a file, so that the head of an entry can be read at once: its index, tag and count.
@@ -22,8 +22,6 @@ PADDING = 16
 HEAD = struct.Struct(">HBH")
 UPPER, LOWER, LEAF = range(3)
 BLOCKS = ("upper extent", "lower extent", "leaf extent", "voxel")
-
-Progress = Callable[[int, int], None]
 
 
 class Reader:

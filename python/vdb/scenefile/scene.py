@@ -2,17 +2,18 @@
 """A scene, which is the content of a file: grids by name."""
 from __future__ import annotations
 
+import hashlib
 import os
 import stat
 from itertools import chain
 from typing import Iterator, Optional
 
 from ..errors import SceneTooLongError
-from ..files import naming, replacing
-from ..forms import DEFAULT_LIMIT, MAX_FILE
+from ..files import check_digest, naming, replacing, write_digest
+from ..forms import DEFAULT_LIMIT, MAX_FILE, Progress
 from ..grids import Grids
 from .grid import Grid
-from .reader import PADDING, Progress, Reader
+from .reader import PADDING, Reader
 from .writer import Body, grid_head, scene_head
 
 __all__ = ["Scene", "load", "loads"]
@@ -29,21 +30,26 @@ class Scene(Grids[Grid]):
         """
         return b"".join(self._encoded()[1])
 
-    def save(self, path: "str | os.PathLike[str]", progress: Optional[Progress] = None) -> None:
+    def save(self, path: "str | os.PathLike[str]", progress: Optional[Progress] = None, *, digest: bool = False) -> None:
         """Writes the encoding of the scene to a file.
 
         The bytes go to a temporary file in the same folder, which then takes the place of `path`. `progress` is called with
-        the number of bytes written so far and that of all. Raises SceneTooLongError if there are more than 268,435,456, and
-        FileError if the file can't be written; an existing file stays as it was then.
+        the number of bytes written so far and that of all. With `digest` the SHA-256 of the bytes is written to PATH.sha256, in
+        the form of sha256sum. Raises SceneTooLongError if there are more than 268,435,456, and FileError if the file can't be
+        written; an existing file stays as it was then.
         """
         length, pieces = self._encoded()
-        done = 0
+        done, sha256 = 0, hashlib.sha256()
         with replacing(path) as file:
             for piece in pieces:
                 file.write(piece)
                 done += len(piece)
+                if digest:
+                    sha256.update(piece)
                 if progress:
                     progress(done, length)
+        if digest:
+            write_digest(path, sha256)
 
     def _encoded(self) -> "tuple[int, Iterator[bytes]]":
         """Returns how many bytes the encoding has, and yields them piece by piece."""
@@ -59,12 +65,20 @@ class Scene(Grids[Grid]):
         return length, chain([head], grids)
 
 
-def load(path: "str | os.PathLike[str]", progress: Optional[Progress] = None) -> Scene:
+def load(path: "str | os.PathLike[str]", progress: Optional[Progress] = None, *, digest: bool = False) -> Scene:
     """Reads a scene file of version 1 or 2.
 
     `progress` is called with the number of bytes read so far and the size of the file. It takes less than ten times the memory of
-    the file's bytes, of which it reads at most 268,435,457. Raises the FormatError of the first fault, in the order of docs/FORMAT.md,
-    and FileError if the file can't be opened or read.
+    the file's bytes, of which it reads at most 268,435,457. With `digest` the bytes are compared with PATH.sha256.
+
+    Raises the FormatError of the first fault, in the order of docs/FORMAT.md, FileError if a file can't be opened or read, and
+    DigestError if the bytes are others.
+
+    Examples
+    --------
+    >>> scenefile.Scene({"a": scenefile.Grid("i32")}).save("b.vdbs")
+    >>> scenefile.load("b.vdbs")["a"].kind
+    'i32'
     """
     with naming(path), open(path, "rb") as file:
         found = os.fstat(file.fileno())
@@ -74,11 +88,19 @@ def load(path: "str | os.PathLike[str]", progress: Optional[Progress] = None) ->
             del data[read : len(data) - PADDING]
         else:
             data = bytearray(file.read(MAX_FILE + 1) + bytes(PADDING))
+    if digest:
+        check_digest(path, memoryview(data)[: len(data) - PADDING])
     return _scene(Reader(data, os.fspath(path), progress))
 
 
 def loads(data: bytes) -> Scene:
-    """Reads a scene from the bytes of a file. Raises the FormatError of the first fault."""
+    """Reads a scene from the bytes of a file. Raises the FormatError of the first fault.
+
+    Examples
+    --------
+    >>> scenefile.loads(scenefile.Scene().to_bytes())
+    Scene({})
+    """
     return _scene(Reader(bytearray(data) + bytes(PADDING), None))
 
 

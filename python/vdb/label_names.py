@@ -1,0 +1,177 @@
+# SPDX-License-Identifier: Apache-2.0
+"""Names and colours of labels, which a scene file can't hold: a table beside it keeps them.
+
+    names = label_names.of("labels.vdbs", "organs")
+    for row in vdb.load("labels.vdbs")["organs"].labels().rows(names):
+        print(row.value, row.name, row.voxels)
+
+A table is the one of BIDS: columns `index`, `name` and `color` (as #ff8800), with tabs between them. That of the grid `organs` of
+`labels.vdbs` is `labels.organs.tsv`, else `labels.tsv`; that of `labels_dseg.nii.gz` is `labels_dseg.tsv`. Names are also read of the
+header of a `.seg.nrrd`, and of a label file of ITK-SNAP.
+"""
+from __future__ import annotations
+
+import csv
+import io
+import os
+import re
+import warnings
+from typing import Dict, Mapping, NamedTuple, Optional, Tuple
+
+import numpy as np
+
+from .errors import MissingFileError, VdbWarning, VolumeError
+from .files import naming, replacing
+from .formats import nrrd
+
+#: The most bytes of a table.
+MOST_BYTES = 2**24
+ENDINGS = re.compile(r"(\.seg)?\.(vdbs|nii|nii\.gz|nrrd|nhdr|tiff?|vti|npy)$", re.IGNORECASE)
+SNAP = re.compile(r'\s*(-?\d+)' + r"\s+(\d+)" * 3 + r'\s+\S+\s+\S+\s+\S+\s+"(.*)"\s*$')
+SEGMENT = re.compile(r"(Segment\d+)_LabelValue$")
+
+
+class Label(NamedTuple):
+    """The name of a label and its colour, red, green and blue from 0 to 255, or None if the table has none."""
+
+    name: str
+    colour: Optional[Tuple[int, int, int]] = None
+
+
+#: Labels by their values.
+Names = Dict[int, Label]
+
+
+class NoTable(ValueError):
+    """The columns of a table aren't those of names."""
+
+
+def of(path: "str | os.PathLike[str]", grid: str = "") -> Names:
+    """Returns the names of the labels of an image file, or of a grid of a scene file: those of its header, else of the table beside it.
+    Without either it returns none. Raises VolumeError if a row of the table has another form, and FileError if it can't be read."""
+    name = os.fspath(path)
+    for place in [name] * name.lower().endswith((".nrrd", ".nhdr")) + [table_of(name, grid), table_of(name)]:
+        try:
+            names = read(place)
+        except MissingFileError:
+            continue
+        except VolumeError as error:
+            if isinstance(error.__cause__, NoTable):
+                continue
+            raise
+        if names or place != name:
+            return names
+    return {}
+
+
+def table_of(path: "str | os.PathLike[str]", grid: str = "") -> str:
+    """Returns the path of the table beside an image file, or for a grid beside a scene file."""
+    return ENDINGS.sub("", os.fspath(path)) + (f".{grid}" if grid else "") + ".tsv"
+
+
+def read(path: "str | os.PathLike[str]") -> Names:
+    """Returns the names of a table of BIDS (.tsv), of the header of a NRRD file (.nrrd, .nhdr), or of a label file of ITK-SNAP (any other
+    ending). Raises VolumeError if the file has another form, and FileError if it can't be read."""
+    name = os.fspath(path)
+    with naming(name), open(name, "rb") as file:
+        try:
+            if name.lower().endswith((".nrrd", ".nhdr")):
+                return of_segments(nrrd.header(file))
+            text = file.read(MOST_BYTES + 1).decode("utf-8-sig")
+            if len(text) > MOST_BYTES:
+                raise ValueError(f"a table of names has at most {MOST_BYTES:,} bytes")
+            return (of_table if name.lower().endswith(".tsv") else of_snap)(text)
+        except (ValueError, csv.Error) as error:
+            raise VolumeError(getattr(error, "reason", None) or str(error), name) from error
+
+
+def of_table(text: str) -> Names:
+    """Returns the names of a table of BIDS."""
+    rows = csv.DictReader(io.StringIO(text), delimiter="\t", quoting=csv.QUOTE_NONE)
+    if not {"index", "name"} <= {*(rows.fieldnames or ())}:
+        raise NoTable("the table has no columns index and name, with tabs between them")
+    return {number_of(row["index"], rows.line_num): Label(row["name"] or "", colour_of(row.get("color"), rows.line_num)) for row in rows}
+
+
+def number_of(text: "str | None", line: int) -> int:
+    """Returns the index of a row. Raises ValueError for another text."""
+    if not re.fullmatch(r"-?\d{1,19}", text or ""):
+        raise ValueError(f"line {line}: the index {text!r} is no integer")
+    return int(text or "")
+
+
+def colour_of(text: "str | None", line: int) -> "Optional[Tuple[int, int, int]]":
+    """Returns the colour of a row, or None if it has none. Raises ValueError for another text."""
+    if not text or text == "n/a":
+        return None
+    found = re.fullmatch(r"#?([0-9a-fA-F]{6})", text)
+    if not found:
+        raise ValueError(f"line {line}: the color {text!r} isn't of the form #ff8800")
+    red, green, blue = bytes.fromhex(found[1])
+    return red, green, blue
+
+
+def of_snap(text: str) -> Names:
+    """Returns the names of a label file of ITK-SNAP: index, red, green, blue, opacity, two flags and the name in quotes."""
+    names: Names = {}
+    for number, line in enumerate(text.splitlines(), 1):
+        if line.strip() and not line.lstrip().startswith("#"):
+            found = SNAP.match(line)
+            if not found or max(map(int, found.group(2, 3, 4))) > 255:
+                raise ValueError(f"line {number}: no label of ITK-SNAP, and no table of BIDS, whose name ends in .tsv: {line.strip()[:80]!r}")
+            names[int(found[1])] = Label(found[5], (int(found[2]), int(found[3]), int(found[4])))
+    return names
+
+
+def of_segments(fields: "Mapping[str, str]") -> Names:
+    """Returns the names of the segments in a header of NRRD, as 3D Slicer writes it."""
+    names: Names = {}
+    for key, value in fields.items():
+        segment = SEGMENT.match(key)
+        if segment:
+            parts = [round(255 * float(part)) for part in fields.get(f"{segment[1]}_Color", "").split()]
+            colour = (parts[0], parts[1], parts[2]) if len(parts) == 3 and 0 <= min(parts) <= max(parts) <= 255 else None
+            names[nrrd.number(value, key)] = Label(fields.get(f"{segment[1]}_Name", ""), colour)
+    return names
+
+
+def write(path: "str | os.PathLike[str]", names: Names) -> None:
+    """Writes a table of BIDS. An existing file is replaced. Raises FileError if it can't be written.
+
+    Examples
+    --------
+    >>> write("labels.organs.tsv", {2: Label("left kidney", (255, 136, 0)), 5: Label("liver")})
+    >>> print(open("labels.organs.tsv").read().expandtabs(13))
+    index        name         color
+    2            left kidney  #ff8800
+    5            liver        n/a
+    <BLANKLINE>
+    >>> of("labels.vdbs", "organs")[5]
+    Label(name='liver', colour=None)
+    """
+    with replacing(path) as file:
+        file.write(b"index\tname\tcolor\n")
+        for index, (name, colour) in sorted(names.items()):
+            file.write(f"{index}\t{' '.join(name.split())}\t{'#%02x%02x%02x' % colour if colour else 'n/a'}\n".encode())
+
+
+def keep(path: "str | os.PathLike[str]", names: Names, grid: str = "") -> None:
+    """Writes names to the table beside a file. If that isn't a table of names, it stays, which is a VdbWarning."""
+    table = table_of(path, grid)
+    try:
+        read(table)
+    except MissingFileError:
+        pass
+    except VolumeError as error:
+        return warnings.warn(f"{error}: the names of labels aren't written", VdbWarning, stacklevel=2)
+    write(table, names)
+
+
+def coloured(colours: np.ndarray, values: np.ndarray, names: Names) -> np.ndarray:
+    """Returns the colours of values (n x 3, uint8), in place of which the names' own ones stand."""
+    made = colours.copy()
+    for place, value in enumerate(values.tolist()):
+        colour = names[value].colour if value in names else None
+        if colour:
+            made[place] = colour
+    return made
