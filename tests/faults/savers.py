@@ -185,14 +185,17 @@ def scenefile():
 
 
 def vdb_scene():
-    """Adds a grid of an array to a file that has another one, as the row says: a voxel of 7 that isn't active."""
+    """Adds a grid of an array to a file that has another one, as the row says: a voxel of 7 that isn't active. The grid also tells of the
+    array: its type, its sides and its first voxel."""
     place, both = Copies(), encoding.load(vectors.TWO)
+    of_array = [(b"image_array", b"int64,1,1,1"), (b"image_low", b"-1,-1,-1")]
+    saved = encoding.save([replace(grid, pairs=of_array) if grid.name == b"a" else grid for grid in both])
     mask = place.folder / "mask.npy"
     mask.write_bytes(npy("|b1", b"\0"))
     words = ["vdb-scene", "convert", "LOAD", "SAVE", "--grid", "a", "--active", mask]
     words += "--origin -1 -1 -1 --background -1 --limit 2".split()
     values, old = npy("<i8", (7).to_bytes(8, "little")), encoding.save([grid for grid in both if grid.name != b"a"])
-    return Saver("vdb-scene", place, words, LOST, load=values, saved=vectors.TWO, old=old, places=("link",))
+    return Saver("vdb-scene", place, words, LOST, load=values, saved=saved, old=old, places=("link",))
 
 
 def npy(kind, data):
