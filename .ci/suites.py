@@ -79,7 +79,7 @@ def stages(options):
         ]
     return [
         [Suite("texts of edits", ["tests/edits/run", "--texts"], 400)],
-        [Suite("proofs", [python, ".ci/proofs.py", *(it for it in options if it == "--anew")], 19)],
+        [Suite("proofs", [python, ".ci/proofs.py", *(it for it in options if it == "--anew")], 20)],
         [Suite("libvdb", ["tools/build-libvdb"], 1)],
         [
             Suite("edits", ["nice", "-n", "10", "tests/edits/run", "--ci"], 28),
