@@ -1,5 +1,5 @@
 -- The voxels of a leaf that aren't the background.
-use Rattle.vdb_file.proofs.Common.{◌≡◌, ℕ, ◌+◌, ◌-◌, ◌<◌, ◌≤◌, Bool, true, false, not, List, ◌++◌, arith, refl, sym, ap, subst, ◌∙◌, length, length-take-le, take, take-take, put_mid, ◌↔◌, IfSome, Option, Some, None, w16, to_be_bytes, block_around, block_number, entries, offset, AreBits, Box, everywhere, is_inside, Bits, Coord, Level, Leaf, block_in_range, number_of_corner, corner_inside, corner_of_entry, in_entry, number_in_block, voxel_from_leaf, entry_count, Field, off, Layout, field_of, cell_exact, cell_same, uniform_cells, uniform_from, IsConstantLeaf, cell_in, cell_eq, is_background, is_constant, Cell, cell_bytes, listed, voxel_body, Puts, Sent, numbered, passing}
+use Rattle.vdb_file.proofs.Common.{◌≡◌, ℕ, suc, ◌+◌, ◌-◌, ◌<◌, ◌≤◌, Bool, true, false, not, List, ◌++◌, arith, refl, sym, ap, subst, ◌∙◌, length, length-append, length-take-le, take, take-take, put_mid, ◌↔◌, IfSome, Option, Some, None, w16, to_be_bytes, block_around, block_number, entries, offset, AreBits, Box, everywhere, is_inside, Bits, Coord, Level, Leaf, block_in_range, number_of_corner, corner_inside, corner_of_entry, in_entry, number_in_block, voxel_from_leaf, entry_count, Field, off, Layout, field_of, cell_exact, cell_same, uniform_cells, uniform_from, IsConstantLeaf, cell_in, cell_eq, is_background, is_constant, Cell, cell_bytes, listed, voxel_body, Puts, Sent, numbered, passing}
 use Rattle.std.proofs.lemmas.Slice.{take-put_mid}
 use Rattle.std.proofs.Math.Seq.{take-append-add}
 use Rattle.std.specs.Prelude.{is_some}
@@ -35,6 +35,20 @@ module _ {V : Type 0} (eq : V → V → Bool) (leaf : LeafOf V) (d background : 
     pub voxel_left : not (cell_eq eq cell background) ≡ false → front ≡ numbered (λ k. cell_bytes eq value_bytes (cell_in d leaf k)) (passing stands (i + 1))
     voxel_left h =
         so_far ∙ ap (numbered (λ k. cell_bytes eq value_bytes (cell_in d leaf k))) (sym (passing_out stands i (ap (λ (x : Cell V). not (cell_eq eq x background)) at ∙ h)))
+
+  -- the same by the numbers of bytes
+  module _ (value_bytes : V → List ℕ) (i len : ℕ) (cell : Cell V) (at : cell_in d leaf i ≡ cell)
+      (so_far : len ≡ length (numbered (λ k. cell_bytes eq value_bytes (cell_in d leaf k)) (passing stands i))) where
+    pub bytes_counted : (size : ℕ) → length (value_bytes cell.value) ≡ size → not (cell_eq eq cell background) ≡ true → len + (3 + size) ≡ length (numbered (λ k. cell_bytes eq value_bytes (cell_in d leaf k)) (passing stands (i + 1)))
+    bytes_counted size long h =
+        let front = numbered (λ k. cell_bytes eq value_bytes (cell_in d leaf k)) (passing stands i) in
+        let whole = ap length (voxel_added value_bytes i cell at front refl h) in
+        let parts = length-append front (to_be_bytes w16 i ++ cell_bytes eq value_bytes cell) in
+        let last : length (to_be_bytes w16 i ++ cell_bytes eq value_bytes cell) ≡ suc (suc (suc (length (value_bytes cell.value)))) = refl in
+        omega (arith, so_far, whole, parts, last, long)
+
+    pub bytes_passed : not (cell_eq eq cell background) ≡ false → len ≡ length (numbered (λ k. cell_bytes eq value_bytes (cell_in d leaf k)) (passing stands (i + 1)))
+    bytes_passed h = so_far ∙ ap length (voxel_left value_bytes i cell at (numbered (λ k. cell_bytes eq value_bytes (cell_in d leaf k)) (passing stands i)) refl h)
 
 -- a part of a row was written, and its first bytes are kept
 pub part_kept : (k : ℕ) (xs ys front bytes : List ℕ) (a s : ℕ) → a + k ≤ length xs → length ys ≡ k → s ≤ k → take a xs ≡ front → take s ys ≡ bytes → take (a + s) (put_mid a (a + k - a) xs ys) ≡ front ++ bytes

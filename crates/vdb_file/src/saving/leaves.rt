@@ -16,7 +16,7 @@ ghost use Rattle.vdb_file.specs.Bodies.{cell_bytes, leaf_body, listed};
 ghost use Rattle.vdb_file.specs.internal.Written.{Puts, numbered, passing, sent};
 
 use crate::fault::SaveFault;
-use crate::saving::output::Output;
+use crate::saving::output::{COUNTING, Output};
 use std::io::Write;
 use vdb_coord::{Bits, Coord, Level};
 use vdb_node::{Leaf, Stored};
@@ -181,6 +181,29 @@ fn encode_voxels<V: Stored<8>>(
     (len, count)
 }
 
+/// Returns how many bytes `encode_voxels` encodes, and how many voxels, without encoding them.
+fn measure_voxels<V: Stored<8>>(leaf: &Leaf<V, 3, 8>, background: Cell<V>, n: u32) -> (usize, u16)
+    requires within { n ≤ entry_count 3 }
+    requires few { n ≤ 512 }
+    ensures few { result.0 ≤ VOXEL * n }
+    ensures count { (d : Cell V) → result.1 ≡ length (passing (λ i. not (cell_eq V.eq (cell_in d leaf.now i) background)) n) }
+    ensures bytes { (d : Cell V) → result.0
+        ≡ length (numbered (λ i. cell_bytes V.eq V.bytes_of (cell_in d leaf.now i)) (passing (λ i. not (cell_eq V.eq (cell_in d leaf.now i) background)) n)) }
+{
+    let mut len = 0;
+    let mut count = 0;
+    for i in 0..n {
+        let cell = leaf.entry(i);
+        let mut value = [0; 8];
+        let size = cell.value.to_bytes(&mut value);
+        if cell != background {
+            len += 3 + size;
+            count += 1;
+        }
+    }
+    (len, count)
+}
+
 /// Returns the cell of the leaf extent around a coordinate if all its voxels have that cell.
 fn one_cell<V: GridValue>(tree: &Tree<V>, p: Coord, leaf: &Leaf<V, 3, 8>) -> Option<Cell<V>>
     requires { IsLeafAround vdb (field_of vdb tree.now) p leaf.now }
@@ -213,6 +236,12 @@ fn put_leaf_cells<V: GridValue, W: Write, const C: u32>(
         on: false,
     };
     let n = u32::from(Bits::VDB.entries(Level::Leaf));
+    if C == COUNTING {
+        let (len, count) = measure_voxels(leaf, background, n);
+        put_head(out, writer, count)?;
+        out.count(len);
+        return Ok(());
+    }
     let mut bytes = [0; VOXELS];
     let (len, count) = encode_voxels(leaf, background, n, &mut bytes);
     put_head(out, writer, count)?;

@@ -1,6 +1,6 @@
 //! Buffers the bytes of a file on their way to a writer.
 
-ghost use Rattle.std.specs.Prelude.{◌≡◌, ◌≤◌, ◌||◌, [], is_err, length, IsOk, OnOk};
+ghost use Rattle.std.specs.Prelude.{◌≡◌, ◌≤◌, ◌||◌, [], is_err, length, IsOk, List, OnOk, Option, ℕ};
 ghost use Rattle.std.specs.Io.KnownBytes.{Appends};
 ghost use Rattle.vdb_scene.specs.Watched.{has_failed, source};
 ghost use Rattle.vdb_file.specs.internal.Written.{Puts, sent};
@@ -74,6 +74,14 @@ impl<const COUNTS: u32> Output<COUNTS> {
         }
         self.page.try_extend_from_slice(bytes).unwrap();
         Ok(())
+    }
+
+    /// Counts bytes of which only their number is known.
+    pub(crate) fn count(&mut self, len: usize)
+        requires { COUNTS ≡ 1 }
+        ensures { (before after : Option (List ℕ)) (bytes : List ℕ) → length bytes ≡ len → Puts (sent COUNTS self.old before) (sent COUNTS self.new after) bytes }
+    {
+        self.total = self.total.saturating_add(len as u64);
     }
 
     /// Writes the bytes in the buffer.
