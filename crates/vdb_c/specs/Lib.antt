@@ -3,6 +3,7 @@ pub mod HeldGrid
 pub mod LendsGrid
 pub mod HeldScene
 pub mod Codes
+pub mod Texts
 pub mod Values
 pub mod Calls
 pub mod Reports
