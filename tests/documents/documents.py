@@ -1,14 +1,17 @@
 #!/usr/bin/env python3
 # SPDX-License-Identifier: Apache-2.0
-"""Checks the documents: documents.py [--write]
+"""Checks the documents: documents.py [--write | --run [PAGE..]]
 
-It reports and exits with status 1 if
+With --run it runs the code blocks of README and of the other pages for users, or of README and those named (pages.py). Otherwise it
+reports and exits with status 1 if
 
 - a relative link of a Markdown file names no file or no heading,
 - a sentence outside tables and code has more than 30 words,
+- two documents share ten words in a row, or three lines of code,
 - the example in docs/LIBRARY.md differs from `fill_and_count` of library_examples, which CI proves,
 - `vdb --version` or README.md has another version than VERSION,
 - the tables of docs/PROOFS.md differ from those of definitions.py; --write renews them,
+- a code block of a page for users isn't of the form that --run needs,
 - a number in a document differs from its source: of commands, crates, edits, checks, definitions, limits, minutes of CI,
 - docs/TESTING.md tells another least number of results of a suite than CI asks for.
 """
@@ -17,10 +20,12 @@ import re
 import subprocess
 import sys
 
+import pages
 from definitions import TOP, edits_of, tables, text
 from crates import lowest_first
 
 WORDS = 30
+SHARED_WORDS, SHARED_LINES = 10, 3
 LINK = re.compile(r"\]\(([^)\s]+)\)")
 ITEM = re.compile(r"^\s*(?:[-*]|\d+\.)\s")
 END = re.compile(r"(?<=[.!?])[\"')*_`]*\s+")
@@ -75,6 +80,31 @@ def long_sentences(name):
             part = []
         if line.strip() and not line.startswith(("|", "#")):
             part.append(ITEM.sub("", line))
+
+
+def parts(name):
+    """Yields the paragraphs, items and rows of a document as their words, and its blocks of code as their lines, each with the shared number."""
+    document = text(name)
+    for part in re.split(r"\n\s*\n|\n(?=\s*(?:[-*|#]|\d+\.)\s?)", prose(document)):
+        yield SHARED_WORDS, re.findall(r"[\w'./-]+", re.sub(r"\]\([^)]*\)", "]", part).lower())
+    fenced = [it[1] for it in re.finditer(r"(?ms)^```.*?\n(.*?)^```$", document)]
+    indented = re.findall(r"(?m)(?:^ {4}(?! *(?:[-*]|\d+\.)\s).*\n)+", re.sub(r"(?ms)^```.*?^```$", "", document))
+    for block in fenced + indented:
+        yield SHARED_LINES, [line.strip() for line in block.split("\n") if len(line.strip()) > 3]
+
+
+def repeats(names):
+    """Yields what a document repeats of another one: a fact has one document, and others link to it. CHANGELOG tells of all."""
+    seen = {}
+    for name in names:
+        told = set()
+        for length, items in parts(name) if name != "CHANGELOG.md" else ():
+            for first in range(len(items) - length + 1):
+                run = tuple(items[first : first + length])
+                other = seen.setdefault(run, name)
+                if other not in (name, *told):
+                    told.add(other)
+                    yield f"{name}: repeats {other}: {' '.join(run)}"
 
 
 # for each limit a word of its row in README's table, and where it is defined
@@ -155,6 +185,8 @@ def renewed(document, made):
 
 
 def main():
+    if sys.argv[1:2] == ["--run"]:
+        sys.exit(pages.run([os.path.relpath(os.path.abspath(it), TOP) for it in sys.argv[2:]]))
     made, sums = tables()
     proofs, names = renewed(text("docs/PROOFS.md"), made), documents()
     if sys.argv[1:] == ["--write"]:
@@ -166,6 +198,9 @@ def main():
     expected = counts(sums)
     for name in names:
         found += [*broken_links(name), *long_sentences(name), *wrong_counts(name, expected)]
+    found += repeats(names)
+    for name in pages.pages():
+        found += pages.bad_blocks(name)
     print("\n".join(found), end="\n" * bool(found))
     sys.exit(bool(found))
 
