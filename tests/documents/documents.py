@@ -9,7 +9,7 @@ reports and exits with status 1 if
 - a sentence outside tables and code has more than 30 words,
 - two documents share ten words in a row, or three lines of code,
 - the example in docs/LIBRARY.md differs from `fill_and_count` of library_examples, which CI proves,
-- `vdb --version` or README.md has another version than VERSION,
+- a file has another version than VERSION (tools/set-version),
 - the tables of docs/PROOFS.md differ from those of definitions.py; --write renews them,
 - a code block of a page for users isn't of the form that --run needs,
 - a number in a document differs from its source: of commands, crates, edits, checks, definitions, limits, minutes of CI,
@@ -166,15 +166,11 @@ def wrong_counts(name, expected):
 
 def stale_numbers():
     """Yields the numbers and copies that are out of date."""
-    program, readme = text("crates/library_examples/src/main.rt"), text("README.md")
+    program = text("crates/library_examples/src/main.rt")
     function = re.search(r"(?ms)^fn fill_and_count.*?^}\n", program)[0]
     if "".join(f"    {line}" for line in function.splitlines(True)) not in text("docs/LIBRARY.md"):
         yield "docs/LIBRARY.md: another example than `fill_and_count` of library_examples"
-    command_line, version = "crates/vdb_shell/src/command_line.rt", text("VERSION").strip()
-    if re.findall(r'\.version\("(.*)"\)', text(command_line)) != [version]:
-        yield f"{command_line}: another version than {version}"
-    if f"Version {version}." not in readme:
-        yield f"README.md: not version {version}"
+    yield from subprocess.run([f"{TOP}/tools/set-version", "--check"], stdout=subprocess.PIPE, text=True).stdout.splitlines()
 
 
 def renewed(document, made):

@@ -4,7 +4,7 @@
 A block's language says what it is: `sh` and `python` are run, each in one session per page; a language and a file's name, as in
 `cpp loop.cpp`, is the content of that file; `text` is exactly what the block before it prints, on both streams. A block without one prints
 nothing. README runs in a folder of links to what is at the top, and its exports hold in all pages; every other page begins in an empty
-folder. Each page is run twice there, as by a reader who pastes it again.
+folder. The converters of tools/openvdb are on the PATH. Each page is run twice there, as by a reader who pastes it again.
 """
 import difflib
 import glob
@@ -49,11 +49,12 @@ def pages():
     return [README, *sorted(os.path.relpath(it, TOP) for it in found)]
 
 
-def blocks(name):
-    """The fenced blocks of a page in order."""
+def blocks(name, section=""):
+    """The fenced blocks of a page in order, or those from a section on."""
     page = text(name)
+    first = page.index(f"\n## {section}\n") if section else 0
     found = re.finditer(r"(?ms)^```(.*?)\n(.*?)^```$", page)
-    return [Block(page.count("\n", 0, it.start()) + 1, it[1].split(), it[2]) for it in found]
+    return [Block(page.count("\n", 0, it.start()) + 1, it[1].split(), it[2]) for it in found if it.start() >= first]
 
 
 def bad_blocks(name):
@@ -108,10 +109,11 @@ def environment_of(shell):
         return dict(it.split("=", 1) for it in file.read().split("\0") if it)
 
 
-def play(name, folder, environment):
-    """Runs the blocks of a page in a folder. Returns how many it ran, and the variables at the end. Raises Failed."""
+def play(name, folder, environment, section=""):
+    """Runs the blocks of a page, or those from a section on, in a folder. Returns how many it ran, and the variables at the end. Raises
+    Failed."""
     sessions: Dict[str, Session] = {"sh": Session(SESSIONS["sh"], folder, environment)}
-    found, ran = blocks(name), 0
+    found, ran = blocks(name, section), 0
     try:
         for block, after in zip(found, [*found[1:], None]):
             if len(block.words) == 2:
@@ -143,7 +145,7 @@ def run(asked):
     with tempfile.TemporaryDirectory() as home:
         os.mkdir(f"{home}/bin")
         os.symlink(shutil.which(sys.executable), f"{home}/bin/python3")  # the one with NumPy
-        environment = {**os.environ, "HOME": home, "PATH": f"{home}/bin:{os.environ['PATH']}", "LC_ALL": "C.UTF-8"}
+        environment = {**os.environ, "HOME": home, "PATH": f"{home}/bin:{os.environ['PATH']}:{TOP}/tools/openvdb", "LC_ALL": "C.UTF-8"}
         for name in (it for it in pages() if not asked or it in (README, *asked)):
             folder = tempfile.mkdtemp(dir=home)
             for it in os.listdir(TOP) if name == README else ():
