@@ -142,6 +142,9 @@ def play(name, folder, environment, section=""):
 def run(asked):
     """Runs README and the pages asked for, or all. Prints what failed and the numbers of blocks, and returns the status."""
     passed, failed = 0, 0
+    unknown = {*asked} - {*pages()}
+    if unknown:
+        sys.exit(f"documents.py: {', '.join(unknown)}: no page of {', '.join(pages())}")
     with tempfile.TemporaryDirectory() as home:
         os.mkdir(f"{home}/bin")
         os.symlink(shutil.which(sys.executable), f"{home}/bin/python3")  # the one with NumPy
