@@ -13,6 +13,7 @@ from pathlib import Path
 
 import nibabel
 import numpy as np
+from PIL import Image
 from scipy import ndimage
 
 TOP = Path(__file__).resolve().parents[2]
@@ -115,12 +116,13 @@ def gray(found):
 def shot(page):
     """A picture of the page, with the crosshair in the liver and the faces cut open there."""
     browser.SECONDS = 3600
+    others = [it for it in browser.FLAGS if not it.startswith("--window-size")]
+    browser.FLAGS = (*others, "--window-size=1080,680", "--disable-accelerated-2d-canvas", "--disable-gpu-rasterization")
     with browser.Browser() as window:
         window.call("Page.navigate", url=f"file://{page}")
         window.wait("document.documentElement?.dataset.state")
-        window.value(f"move({list(CROSSHAIR)}.map((part, axis) => part - about.origin[axis])); $('#cut').click(); opacity = 0.75; true")
         before = window.value("Number(document.documentElement.dataset.frames)")
-        window.value("draw()")
+        window.value(f"move({list(CROSSHAIR)}.map((part, axis) => part - about.origin[axis])); $('#cut').click(); opacity = 0.75; true")
         window.wait(f"document.documentElement.dataset.frames > {before}")
         return window.screenshot()
 
@@ -136,8 +138,6 @@ def main():
         words = ["view", "abdomen.nii.gz", "abdomen.html", "--beneath", "ct.nii.gz", "--window", "-160", "300"]
         subprocess.run([sys.executable, "-m", "vdb", *words], env={**os.environ, "PYTHONPATH": str(TOP / "python")}, check=True)
         Path("shot.png").write_bytes(shot(f"{folder}/abdomen.html"))
-        from PIL import Image
-
         Image.open("shot.png").convert("RGB").quantize(256, dither=Image.Dither.NONE).save(out, optimize=True)
 
 
