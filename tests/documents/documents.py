@@ -12,7 +12,7 @@ reports and exits with status 1 if
 - a file has another version than VERSION (tools/set-version),
 - the tables of docs/PROOFS.md differ from those of definitions.py; --write renews them,
 - a code block of a page for users isn't of the form that --run needs,
-- a number in a document differs from its source: of commands, crates, edits, checks, definitions, limits, minutes of CI,
+- a number in a document differs from its source: of commands, crates, edits, checks, definitions, limits, speeds, minutes of CI,
 - docs/TESTING.md tells another least number of results of a suite than CI asks for.
 """
 import os
@@ -132,6 +132,28 @@ def wrong_limits():
             yield f"README.md: no limit {digits} in a row of {row}"
 
 
+# for each row of README's tables of speed a word, and the rows of bench/results that have its figures
+SPEEDS = [
+    ("set a voxel", "C, sets by an accessor in order, new leaves"), ("from the root", "C, gets from the root in order"),
+    ("over a box", "C, an array to a box"), ("fill a box", "fill, sides up to 64"), ("in order", "accessor, reads in order"),
+    ("load three", "three grids of 434,000 scattered voxels, i32: (?:load|size)"), ("load two", "two masks of 300 boxes, bool: (?:load|size)"),
+    ("array to a grid", "spheres: to a grid"), ("array to a file", "spheres: to a file"),
+]  # fmt: skip
+
+
+def wrong_speeds():
+    """Yields the figures of README's tables of speed that no median of the last run rounds to, and that BENCHMARKS doesn't have."""
+    (results,) = re.findall(r"\]\(\.\./(bench/results/[^)]*/results\.txt)\)", text("docs/BENCHMARKS.md"))
+    for word, name in SPEEDS:
+        rows = re.findall(rf"(?m)^\| {name} \|.*", text(results))
+        medians = [float(it.replace(",", "")) for row in rows for it in re.findall(r"\| ([\d,.]+)", row)]
+        (shown,) = re.findall(rf"(?m)^\| [^|]*{word}[^|]* \| .*", text("README.md"))
+        for figure, digits, unit in re.findall(r"(\d+(?:\.(\d+))?) (ns|us|s|MB)\b", shown):
+            scale = 1000 if unit == "us" else 1
+            if f"{figure} {unit}" not in text("docs/BENCHMARKS.md") and not any(abs(it / scale - float(figure)) <= 0.51 * 10 ** -len(digits) for it in medians):
+                yield f"README.md: {figure} {unit} in '{word}', which isn't in {results}: {name}"
+
+
 def counts(sums):
     """What documents count: a pattern of each count, or of its least and its greatest number, and the number."""
     commands = re.search(r"pub enum Command \{(.*?)\n\}", text("crates/vdb_scene/src/command.rt"), re.S)[1]
@@ -188,7 +210,7 @@ def main():
     if sys.argv[1:] == ["--write"]:
         with open(f"{TOP}/docs/PROOFS.md", "w", encoding="utf-8") as file:
             file.write(proofs)
-    found = [*stale_numbers(), *wrong_limits(), *untold_suites()]
+    found = [*stale_numbers(), *wrong_limits(), *wrong_speeds(), *untold_suites()]
     if proofs != text("docs/PROOFS.md"):
         found.append("docs/PROOFS.md: the tables are out of date; tests/documents/documents.py --write renews them")
     expected = counts(sums)
