@@ -101,6 +101,8 @@ def stages(options):
         [
             Suite("I/O faults", ["tests/faults/run", *IO_FAULTS], 10_000),
             Suite("tests of saving", unittest("tests/tools/test_files.py"), 12),
+            Suite("pages for users", [python, "tests/documents/documents.py", "--run"], 76),
+            Suite("references", ["tools/build-docs"], 1),
             Suite("documents", [python, "tests/documents/documents.py"], 1),
         ],
     ]

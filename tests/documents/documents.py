@@ -1,15 +1,18 @@
 #!/usr/bin/env python3
 # SPDX-License-Identifier: Apache-2.0
-"""Checks the documents: documents.py [--write]
+"""Checks the documents: documents.py [--write | --run [PAGE..]]
 
-It reports and exits with status 1 if
+With --run it runs the code blocks of README and of the other pages for users, or of README and those named (pages.py). Otherwise it
+reports and exits with status 1 if
 
 - a relative link of a Markdown file names no file or no heading,
 - a sentence outside tables and code has more than 30 words,
+- two documents share ten words in a row, or three lines of code,
 - the example in docs/LIBRARY.md differs from `fill_and_count` of library_examples, which CI proves,
-- `vdb --version` or README.md has another version than VERSION,
+- a file has another version than VERSION (tools/set-version),
 - the tables of docs/PROOFS.md differ from those of definitions.py; --write renews them,
-- a number in a document differs from its source: of commands, crates, edits, checks, definitions, limits, minutes of CI,
+- a code block of a page for users isn't of the form that --run needs,
+- a number in a document differs from its source: of commands, crates, edits, checks, definitions, limits, speeds, minutes of CI,
 - docs/TESTING.md tells another least number of results of a suite than CI asks for.
 """
 import os
@@ -17,10 +20,12 @@ import re
 import subprocess
 import sys
 
+import pages
 from definitions import TOP, edits_of, tables, text
 from crates import lowest_first
 
 WORDS = 30
+SHARED_WORDS, SHARED_LINES = 10, 3
 LINK = re.compile(r"\]\(([^)\s]+)\)")
 ITEM = re.compile(r"^\s*(?:[-*]|\d+\.)\s")
 END = re.compile(r"(?<=[.!?])[\"')*_`]*\s+")
@@ -77,6 +82,31 @@ def long_sentences(name):
             part.append(ITEM.sub("", line))
 
 
+def parts(name):
+    """Yields the paragraphs, items and rows of a document as their words, and its blocks of code as their lines, each with the shared number."""
+    document = text(name)
+    for part in re.split(r"\n\s*\n|\n(?=\s*(?:[-*|#]|\d+\.)\s?)", prose(document)):
+        yield SHARED_WORDS, re.findall(r"[\w'./-]+", re.sub(r"\]\([^)]*\)", "]", part).lower())
+    fenced = [it[1] for it in re.finditer(r"(?ms)^```.*?\n(.*?)^```$", document)]
+    indented = re.findall(r"(?m)(?:^ {4}(?! *(?:[-*]|\d+\.)\s).*\n)+", re.sub(r"(?ms)^```.*?^```$", "", document))
+    for block in fenced + indented:
+        yield SHARED_LINES, [line.strip() for line in block.split("\n") if len(line.strip()) > 3]
+
+
+def repeats(names):
+    """Yields what a document repeats of another one: a fact has one document, and others link to it. CHANGELOG tells of all."""
+    seen = {}
+    for name in names:
+        told = set()
+        for length, items in parts(name) if name != "CHANGELOG.md" else ():
+            for first in range(len(items) - length + 1):
+                run = tuple(items[first : first + length])
+                other = seen.setdefault(run, name)
+                if other not in (name, *told):
+                    told.add(other)
+                    yield f"{name}: repeats {other}: {' '.join(run)}"
+
+
 # for each limit a word of its row in README's table, and where it is defined
 LIMITS = [
     ("script", "vdb_script/src/source.rt", r"SCRIPT_LIMIT: usize = ([\d_]+)"),
@@ -100,6 +130,28 @@ def wrong_limits():
         digits = f"{limit >> 20} MiB" if limit >= 2**24 else f"{limit:,}"
         if not re.search(rf"\| [^|\n]*{row}[^|\n]*\|[^|\n]*(?<![\d,]){digits}(?!,?\d)", text("README.md")):
             yield f"README.md: no limit {digits} in a row of {row}"
+
+
+# for each row of README's tables of speed a word, and the rows of bench/results that have its figures
+SPEEDS = [
+    ("set a voxel", "C, sets by an accessor in order, new leaves"), ("from the root", "C, gets from the root in order"),
+    ("over a box", "C, an array to a box"), ("fill a box", "fill, sides up to 64"), ("in order", "accessor, reads in order"),
+    ("load three", "three grids of 434,000 scattered voxels, i32: (?:load|size)"), ("load two", "two masks of 300 boxes, bool: (?:load|size)"),
+    ("array to a grid", "spheres: to a grid"), ("array to a file", "spheres: to a file"),
+]  # fmt: skip
+
+
+def wrong_speeds():
+    """Yields the figures of README's tables of speed that no median of the last run rounds to, and that BENCHMARKS doesn't have."""
+    (results,) = re.findall(r"\]\(\.\./(bench/results/[^)]*/results\.txt)\)", text("docs/BENCHMARKS.md"))
+    for word, name in SPEEDS:
+        rows = re.findall(rf"(?m)^\| {name} \|.*", text(results))
+        medians = [float(it.replace(",", "")) for row in rows for it in re.findall(r"\| ([\d,.]+)", row)]
+        (shown,) = re.findall(rf"(?m)^\| [^|]*{word}[^|]* \| .*", text("README.md"))
+        for figure, digits, unit in re.findall(r"(\d+(?:\.(\d+))?) (ns|us|s|MB)\b", shown):
+            scale = 1000 if unit == "us" else 1
+            if f"{figure} {unit}" not in text("docs/BENCHMARKS.md") and not any(abs(it / scale - float(figure)) <= 0.51 * 10 ** -len(digits) for it in medians):
+                yield f"README.md: {figure} {unit} in '{word}', which isn't in {results}: {name}"
 
 
 def counts(sums):
@@ -136,15 +188,11 @@ def wrong_counts(name, expected):
 
 def stale_numbers():
     """Yields the numbers and copies that are out of date."""
-    program, readme = text("crates/library_examples/src/main.rt"), text("README.md")
+    program = text("crates/library_examples/src/main.rt")
     function = re.search(r"(?ms)^fn fill_and_count.*?^}\n", program)[0]
     if "".join(f"    {line}" for line in function.splitlines(True)) not in text("docs/LIBRARY.md"):
         yield "docs/LIBRARY.md: another example than `fill_and_count` of library_examples"
-    command_line, version = "crates/vdb_shell/src/command_line.rt", text("VERSION").strip()
-    if re.findall(r'\.version\("(.*)"\)', text(command_line)) != [version]:
-        yield f"{command_line}: another version than {version}"
-    if f"Version {version}." not in readme:
-        yield f"README.md: not version {version}"
+    yield from subprocess.run([f"{TOP}/tools/set-version", "--check"], stdout=subprocess.PIPE, text=True).stdout.splitlines()
 
 
 def renewed(document, made):
@@ -155,17 +203,22 @@ def renewed(document, made):
 
 
 def main():
+    if sys.argv[1:2] == ["--run"]:
+        sys.exit(pages.run([os.path.relpath(os.path.abspath(it), TOP) for it in sys.argv[2:]]))
     made, sums = tables()
     proofs, names = renewed(text("docs/PROOFS.md"), made), documents()
     if sys.argv[1:] == ["--write"]:
         with open(f"{TOP}/docs/PROOFS.md", "w", encoding="utf-8") as file:
             file.write(proofs)
-    found = [*stale_numbers(), *wrong_limits(), *untold_suites()]
+    found = [*stale_numbers(), *wrong_limits(), *wrong_speeds(), *untold_suites()]
     if proofs != text("docs/PROOFS.md"):
         found.append("docs/PROOFS.md: the tables are out of date; tests/documents/documents.py --write renews them")
     expected = counts(sums)
     for name in names:
         found += [*broken_links(name), *long_sentences(name), *wrong_counts(name, expected)]
+    found += repeats(names)
+    for name in pages.pages():
+        found += pages.bad_blocks(name)
     print("\n".join(found), end="\n" * bool(found))
     sys.exit(bool(found))
 

@@ -25,6 +25,9 @@ from pathlib import Path
 sys.path.insert(0, str(Path(__file__).resolve().parents[1] / "c"))
 from test_libvdb import REPORT, TOOLS, TOP, done, run, symbols, work  # noqa: E402
 
+sys.path.insert(0, str(TOP / "tests" / "documents"))
+import pages  # noqa: E402
+
 VERSION = (TOP / "VERSION").read_text(encoding="ascii").strip()
 LIBDIR = "lib/x86_64-linux-gnu"
 PACKAGES = "lib/python3/dist-packages"
@@ -215,23 +218,16 @@ class Packages(unittest.TestCase):
         done([root / "usr/bin/vdb-scene", "view", scene, SCRIPT.split()[1], page])
         self.assertTrue(page.read_text(encoding="utf-8").endswith("</html>\n"))
 
-    def test_the_commands_of_the_readme_without_the_kit(self):
-        """README's programs, with the packages' files in the places of what is built, and with Debian's own tools alone."""
+    def test_the_quick_starts_of_the_readme_without_the_kit(self):
+        """They print what README shows, with the packages' files and Debian's own tools alone."""
         root, folder = packages()[1], work() / "readme"
-        for name, place in (
-            ("out/include", "usr/include"), ("out/lib", LIBRARIES), ("crates/vdb/out", "usr/bin"), ("python", "usr/lib/python3/dist-packages"),
-        ):  # fmt: skip
-            (folder / name).parent.mkdir(parents=True, exist_ok=True)
-            (folder / name).symlink_to(root / place)
-        environment = {"PATH": "/usr/bin:/bin", "LD_LIBRARY_PATH": str(root / LIBRARIES), "VDB_LIBRARY": "libvdb.so.1"}
+        folder.mkdir(exist_ok=True)
+        environment = {
+            "PATH": f"{root}/usr/bin:/usr/bin:/bin", "LD_LIBRARY_PATH": str(root / LIBRARIES), "VDB_LIBRARY": "libvdb.so.1",
+            "PYTHONPATH": f"{root}/usr/lib/python3/dist-packages", "PKG_CONFIG_PATH": str(root / LIBRARIES / "pkgconfig"),
+        }  # fmt: skip
         self.assertIsNone(shutil.which("rt", path=environment["PATH"]))
-        section = re.search(r"^## C, C\+\+ and Python\n(.*?)^## ", (TOP / "README.md").read_text(encoding="utf-8"), re.M | re.S)[1]
-        lines = [line[4:] for line in section.splitlines() if line.startswith("    ") and line.strip() != "tools/build-libvdb"]
-        ran = run(["bash", "-e", "-c", "\n".join(lines)], env=environment, cwd=folder)
-        self.assertEqual((ran.returncode, ran.stdout, ran.stderr), (0, "ok\n" * 4 + "done\n", ""))
-        asked = subprocess.run([root / "usr/bin/vdb", "--load", folder / "labels.vdbs"], input="count margin all\n", stdout=subprocess.PIPE, text=True)
-        # 10^3 grown by 2 to 10^3 + 6 * (2 * 100) + 12 * 10, without the cube and two layers of 36 in the vessel
-        self.assertEqual(asked.stdout, f"count {6 * 200 + 12 * 10 - 72}\n")
+        self.assertEqual(pages.play("README.md", folder, environment, "Quick starts")[0], 4)
 
 
 @functools.lru_cache(None)
