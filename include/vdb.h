@@ -291,6 +291,10 @@ VDB_CODE vdb_grid_bounds(vdb_grid *grid, vdb_box *box, int32_t *found);
 /* Returns the size of the smallest tree of the grid's cells. */
 VDB_CODE vdb_grid_census(vdb_grid *grid, vdb_census *census);
 
+/* Returns whether two grids have the same type, background and cells: *equal is 1 if so, otherwise 0. Their root limits, tiles and leaves
+ * may differ. It stops at the first difference. VDB_SAME_GRID: both handles are the same. */
+VDB_CODE vdb_grid_equal(vdb_grid *grid, vdb_grid *other, int32_t *equal);
+
 /* Returns the first active voxel of a box in block order, or the first one after *at, and its value. If none is left, *found
  * is 0, and *at and *value are unchanged; otherwise *found is 1. VDB_RANGE: corners out of order.
  *
@@ -473,6 +477,10 @@ VDB_OF_TWO(vdb_grid_sum, vdb_grid)
 VDB_OF_TWO(vdb_grid_replace, vdb_grid)
 VDB_OF_TWO(vdb_view_share, vdb_view)
 #undef VDB_OF_TWO
+static inline VDB_CODE vdb_grid_equal_of_two(vdb_grid *first, vdb_grid *second, int32_t *equal)
+{
+    return first == second ? VDB_SAME_GRID : vdb_grid_equal(first, second, equal);
+}
 #define vdb_grid_copy vdb_grid_copy_of_two
 #define vdb_grid_unite vdb_grid_unite_of_two
 #define vdb_grid_subtract vdb_grid_subtract_of_two
@@ -482,6 +490,7 @@ VDB_OF_TWO(vdb_view_share, vdb_view)
 #define vdb_grid_sum vdb_grid_sum_of_two
 #define vdb_grid_replace vdb_grid_replace_of_two
 #define vdb_view_share vdb_view_share_of_two
+#define vdb_grid_equal vdb_grid_equal_of_two
 
 #ifdef __cplusplus
 }

@@ -310,6 +310,16 @@ public:
         return census;
     }
 
+    // Two grids are equal if they have the same type, background and cells. Their limits, tiles and leaves may differ.
+    friend bool operator==(const Grid &a, const Grid &b)
+    {
+        int32_t equal = 1;
+        if (&a != &b)
+            check(vdb_grid_equal(&a.grid_, &b.grid_, &equal));
+        return equal != 0;
+    }
+    friend bool operator!=(const Grid &a, const Grid &b) { return !(a == b); }
+
     // Returns the number of leaves of the tree. It depends on how the cells were written.
     uint64_t leaf_count() const
     {

@@ -5,11 +5,11 @@ from __future__ import annotations
 from concurrent.futures import ThreadPoolExecutor
 from contextlib import ExitStack, contextmanager
 from ctypes import byref, c_uint64, create_string_buffer
-from typing import Callable, Iterator, Mapping, Sequence, Tuple, TypeVar
+from typing import Callable, Iterator, Mapping, Tuple, TypeVar
 
 import numpy as np
 
-from .arrays import box_of, new_grid
+from .arrays import new_grid
 from .errors import RangeError, SceneTooLongError, TooLongFault
 from .forms import COORDINATE_SPAN, KINDS, MAX_FILE, MAX_NAME, MAX_TEXT
 from .library import BUFFER, Held, SceneHandle
@@ -116,33 +116,4 @@ def copied(grid: Held) -> Held:
     """Returns a copy of a grid."""
     copy = Held()
     grid.call_with("copy", copy)
-    return copy
-
-
-def same_cells(first: Held, second: Held, head: int, box: "Sequence[Sequence[int]]" = EVERYWHERE) -> bool:
-    """Returns whether two grids of one type and background have the same cells. The first `head` bytes of a grid's file aren't compared.
-
-    A grid has one encoding. Where it is too long for a file, the halves of the box are compared.
-    """
-    def same_files() -> "bool | None":
-        locks = [grid.lock for grid in sorted((first, second), key=id)]
-        with locks[0], locks[1], lent({NAME: (first, {})}) as one, lent({NAME: (second, {})}) as two:
-            if one.length() != two.length():
-                return False
-            return np.array_equal(one.encoding()[head:], two.encoding()[head:]) if one.length() <= MAX_FILE else None
-
-    same = apart(same_files)
-    if same is not None:
-        return same
-    low, high = box
-    axis = max(range(3), key=lambda axis: high[axis] - low[axis])
-    middle = (low[axis] + high[axis]) // 2
-    halves = (low, (*high[:axis], middle, *high[axis + 1 :])), ((*low[:axis], middle + 1, *low[axis + 1 :]), high)
-    return all(same_cells(clipped(first, half), clipped(second, half), head, half) for half in halves)
-
-
-def clipped(grid: Held, box: "Sequence[Sequence[int]]") -> Held:
-    """Returns a copy of the part of a grid in a box."""
-    copy = copied(grid)
-    copy.call("clip", box_of(*box))
     return copy

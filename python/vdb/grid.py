@@ -11,7 +11,7 @@ from . import images
 from .arrays import box_of, coordinates_of, from_dense, new_grid, write_box, write_voxels
 from .blocks import Cubes
 from .edits import mapped, write_cubes, write_leaves
-from .encoded import NAME, Encoded, copied, encoding_of, same_cells
+from .encoded import NAME, Encoded, copied, encoding_of
 from .engine import NO_ACCESSOR, Census, Stored, box
 from .errors import DtypeError, RangeError
 from .forms import (
@@ -109,11 +109,7 @@ class Grid(Stored):
         of the active voxels that are 3, and so are `!=`, `<`, `<=`, `>` and `>=` with a number."""
         if not isinstance(other, Grid):
             return super().__eq__(other)
-        if self is other:
-            return True
-        if (self._kind, self.background, self.count) != (other._kind, other.background, other.count):
-            return False
-        return same_cells(self._held, other._held, 8 + 2 + 1 + self._kind.size + 4)
+        return self is other or self._held.equals(other._held)
 
     @classmethod
     def from_array(

@@ -87,6 +87,7 @@ ARGUMENTS = {
     "vdb_grid_count_in": (GRID, BOX, POINTER(Count)),
     "vdb_grid_bounds": (GRID, BOX, I32),
     "vdb_grid_census": (GRID, POINTER(CensusCounts)),
+    "vdb_grid_equal": (GRID, GRID, I32),
     "vdb_grid_first_active": (GRID, BOX, COORD, I64, I32),
     "vdb_grid_next_active": (GRID, BOX, COORD, I64, I32),
     "vdb_grid_leaf_count": (GRID, U64),
@@ -213,3 +214,10 @@ class Held:
         first, second = sorted((self, other), key=id)
         with first.lock, second.lock:
             call(byref(self.handle), *arguments, byref(other.handle))
+
+    def equals(self, other: "Held") -> bool:
+        """Returns whether another handle has a grid of the same type, background and cells."""
+        equal, (first, second) = c_int32(), sorted((self, other), key=id)
+        with first.lock, second.lock:
+            LIBRARY.vdb_grid_equal(byref(self.handle), byref(other.handle), byref(equal))
+        return bool(equal.value)

@@ -178,6 +178,27 @@ static void masks()
     CHECK(taken.count() == 3 && taken.kind() == vdb::Kind::boolean);
 }
 
+// Equal cells in other leaves, with another limit; another value, state, background or type.
+static void equal()
+{
+    vdb::Grid a = cube(0, 15, 5), b(vdb::Kind::i32, 0, 1);
+    CHECK(a != b && a == a);
+    b.fill({{0, 0, 0}, {15, 15, 15}}, 5);
+    CHECK(a == b && b == a);
+    b.voxelise(vdb::everywhere);
+    CHECK(a == b && b == a && a.leaf_count() != b.leaf_count());
+    b.set({3, 9, 15}, 6);
+    CHECK(a != b && b != a);
+    b.set({3, 9, 15}, 5, false);
+    CHECK(a != b && !(b == a));
+    b.set({3, 9, 15}, 5);
+    b.set({16, 0, 0}, 0, false);
+    CHECK(a == b);
+    CHECK(vdb::Grid(vdb::Kind::i32, 1) != vdb::Grid(vdb::Kind::i32) && vdb::Grid(vdb::Kind::i32) != vdb::Grid(vdb::Kind::i64));
+    const vdb::Grid gone = std::move(b);
+    CHECK(gone == a && code_of([&] { (void)(a == b); }) == VDB_EMPTY);
+}
+
 // A call on one grid twice.
 static void same()
 {
@@ -590,6 +611,7 @@ int main(int, char **argv)
     progress();
     pairs();
     masks();
+    equal();
     same();
     operands();
     constants();

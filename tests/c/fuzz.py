@@ -478,6 +478,16 @@ class Session:
 
         return Step(f"vdb_grid_{word}", [self.grids[slot], self.grids[second]], (), refusals, commit, None, [slot, second])
 
+    def equal(self):
+        slot, second = self.chance.sample(range(GRIDS), 2)
+        grid, other, out = self.maps[slot], self.maps[second], c_int32(77)
+
+        def results():
+            return [int((grid.kind, grid.background, grid.cells) == (other.kind, other.background, other.cells))]
+
+        refusals = [EMPTY] if grid is None or other is None else []
+        return Step("vdb_grid_equal", [self.grids[slot], self.grids[second], byref(out)], [out], refusals, None, results, [slot, second])
+
     # -- reports
 
     def count(self):
@@ -658,7 +668,7 @@ class Session:
     # -- running
 
     KINDS_OF_STEP = [
-        (set, 30), (get, 25), (fill, 8), (clip, 3), (nodes, 3), (iterate, 2), (combine, 5), (new, 3), (free, 0.5), (copy, 2), (facts, 2),
+        (set, 30), (get, 25), (fill, 8), (clip, 3), (nodes, 3), (iterate, 2), (combine, 5), (equal, 3), (new, 3), (free, 0.5), (copy, 2), (facts, 2),
         (count, 2), (bounds, 2), (census, 1), (active, 5), (many, 6), (dense, 6), (leaf_count, 1), (leaves, 3), (view, 3), (scene_new, 0.5), (scene_load, 0.3), (scene_save, 0.5),
         (scene_names, 1), (scene_put, 0.8), (scene_take, 0.8), (scene_swap, 0.8), (scene_meta, 2),
     ]  # fmt: skip

@@ -26,6 +26,8 @@ int main(void)
         if (vdb_grid_get(&grid, 1, 2, 3, &value, &active) || value != 5 || !active)
             return 30 + (int)it;
     }
+    if (vdb_grid_equal(&grid, &grid, &active) != VDB_SAME_GRID || !active || vdb_grid_copy(&grid, &other) || vdb_grid_equal(&grid, &other, &active) || active != 1)
+        return 7;
     if (vdb_grid_copy(&grid, &other) || vdb_grid_sum(&grid, &other) || vdb_grid_get(&grid, 1, 2, 3, &value, &active) || value != 10)
         return 3;
     if (vdb_view_new(&grid, &view) || vdb_view_share(&view, &view) != VDB_SAME_GRID || vdb_view_share(&view, &second))

@@ -129,6 +129,35 @@ class Arrays(unittest.TestCase):
         whole.fill(((0, 0, 0), (8191, 8191, 8191)), 5, False)
         self.assertEqual(whole, vdb.Grid("i64", 5))
 
+    def test_equal_as_arrays(self):
+        """Grids of arrays are equal if the values and the states of all voxels are, however their trees are cut."""
+        for seed in range(90):
+            with self.subTest(seed=seed):
+                dice = chance(seed)
+                values, active, low, grid = random_grid(dice)
+                other_values, other_active = values.copy(), active.copy()
+                at = tuple(dice.randrange(side) for side in values.shape)
+                if seed % 3 == 1:
+                    other_values[at] = dice.choice(EXTREMES[grid.kind])
+                elif seed % 3 == 2:
+                    other_active[at] = not active[at]
+                other = vdb.Grid.from_array(other_values, other_active, low, grid.background)
+                high = tuple(least + side for least, side in zip(low, values.shape))
+                dice.choice([other.prune, lambda: other.voxelise((low, high)), lambda: None])()
+                same = np.array_equal(values, other_values) and np.array_equal(active, other_active)
+                self.assertEqual((grid == other, other == grid, grid != other), (same, same, not same))
+
+    def test_equal_beyond_a_file(self):
+        """Grids whose file would have more than 268,435,456 bytes are compared as others are."""
+        grid = vdb.Grid("bool")
+        for x in (0, 8, 16, 24):
+            grid.fill(((x, 0, 0), (x, 4095, 4095)), True)
+        self.assertRaises(vdb.SceneTooLongError, vdb.Scene({"a": grid}).to_bytes)
+        other = grid.copy()
+        self.assertEqual(grid, other)
+        other.active[24, 4095, 4095] = False
+        self.assertNotEqual(grid, other)
+
     def test_empty(self):
         for shape in ((0, 0, 0), (0, 5, 5), (5, 0, 5)):
             self.assertEqual(vdb.Grid.from_array(np.zeros(shape, np.int64)).count, 0)

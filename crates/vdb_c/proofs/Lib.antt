@@ -25,3 +25,5 @@ pub mod VoxelCalls
 pub mod SameTrees
 pub mod LoadFaults
 pub mod Swaps
+pub mod EqualCells
+pub mod EqualGrids
