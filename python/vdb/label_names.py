@@ -16,7 +16,7 @@ import io
 import os
 import re
 import warnings
-from typing import Dict, Mapping, NamedTuple, Optional, Tuple
+from typing import Any, Dict, Mapping, NamedTuple, Optional, Tuple
 
 import numpy as np
 
@@ -133,6 +133,22 @@ def of_segments(fields: "Mapping[str, str]") -> Names:
             colour = (parts[0], parts[1], parts[2]) if len(parts) == 3 and 0 <= min(parts) <= max(parts) <= 255 else None
             names[nrrd.number(value, key)] = Label(fields.get(f"{segment[1]}_Name", ""), colour)
     return names
+
+
+def of_image_label(label: "Mapping[str, Any]") -> Names:
+    """Returns the names and colours that the attribute image-label of OME-Zarr has."""
+    colours = {int(it["label-value"]): (*it["rgba"][:3],) for it in label.get("colors", ()) if "rgba" in it}
+    texts = {int(it["label-value"]): str(it.get("name", "")) for it in label.get("properties", ())}
+    return {value: Label(texts.get(value, ""), colours.get(value)) for value in sorted({**texts, **colours})}
+
+
+def image_label(names: Names) -> "Dict[str, Any]":
+    """Returns names and colours as the attribute image-label of OME-Zarr."""
+    colours = [{"label-value": value, "rgba": [*label.colour, 255]} for value, label in names.items() if label.colour]
+    return {
+        **({"colors": colours} if colours else {}),
+        **({"properties": [{"label-value": value, "name": label.name} for value, label in names.items()]} if names else {}),
+    }
 
 
 def write(path: "str | os.PathLike[str]", names: Names) -> None:
