@@ -26,13 +26,13 @@ from .chunk_files import Folder, read_folder
 from .errors import DtypeError, MissingFileError, RangeError
 from .forms import KINDS, Array, Bounds, Coordinate, Metadata, Value, check_bounds, check_box, kind_of_array, narrowed
 from .grid import Grid
-from .image_view import dtype_of
+from .image_view import dtype_of as image_dtype
 from .images import Image, agreed, moved
 from .label_names import Names
 from .manners import Voxels
 from .mask import Mask
 from .reading import MAX_BYTES, check_bytes
-from .zarr_stores import Box, ChunksFault, Compute, Entry, Form, Volume, around, grown, opened, path_of, read_volume, sides, write_volume
+from .zarr_stores import Box, ChunksFault, Compute, Entry, Form, Volume, around, dtype_of, grown, opened, path_of, read_volume, sides, write_volume
 
 try:
     import dask
@@ -169,7 +169,7 @@ class Chunks(Voxels):
         image, own = Image.of(self.metadata), KINDS[self.kind].dtype
         if image is None:
             raise RangeError("the chunks have no image: use chunks.to_array(bounds)")
-        dtype = dtype_of(image, own)
+        dtype = image_dtype(image, own)
         if not image.bounds:
             return dask.array.empty(image.shape, dtype)
         return self.to_array(image.bounds)[0].map_blocks(partial(narrowed, dtype=dtype), dtype=dtype)
@@ -219,11 +219,10 @@ class Chunks(Voxels):
         new = Mask(metadata=self.metadata) if form.is_mask else Grid(self.kind, self.background, metadata=self.metadata)
         made = called(name, arguments, new, other and Grid("bool"))  # raises the error of a wrong argument
         metadata = made.metadata if other is None or ignore_geometry else agreed(made.metadata, other.metadata, made.dtype)
-        box, dtype = form.box if min(form.shape) else None, form.dtype
+        box = form.box if min(form.shape) else None
         if grows and grows.bounds:
             box = around([box, grown(grows.bounds, halo)])
-        if made.kind != self.kind or any(not np.iinfo(dtype).min <= value <= np.iinfo(dtype).max for value in values):
-            dtype = KINDS[made.kind].stored.name
+        dtype = dtype_of(made.kind, form.dtype, values)
         form = Form(made.kind, made.background, isinstance(made, Mask), dtype, *((box[0], sides(box)) if box is not None else form[4:6]), self.side)
         boxes = blocks_of(form.check(), [(source, halo if grows else 0), *([(grows._source, halo)] if grows else [])])
 
@@ -265,8 +264,8 @@ def from_array(
         Image(low, values.shape, values.dtype, moved(found.affine, [-at for at in low]), found.notes).keep(pairs)
         names = label_names.of_image_label(found.label) if names is None else names
     kind = kind_of_array(np.empty(0, values.dtype)).word
-    dtype = "uint8" if kind == "bool" else values.dtype.name
-    form = Form(kind, Grid(kind, background).background, False, dtype, check_box(origin, values.shape), values.shape, side).check()
+    filled = Grid(kind, background).background
+    form = Form(kind, filled, False, dtype_of(kind, values.dtype, [filled]), check_box(origin, values.shape), values.shape, side).check()
 
     def compute(target: Volume) -> "Sequence[Entry | None]":
         cuts = form.cuts(block_side(form), form.low, form.shape)

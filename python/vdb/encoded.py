@@ -2,17 +2,18 @@
 """Scenes of the library: their bytes, and grids lent to them and moved out of them."""
 from __future__ import annotations
 
+import zlib
 from concurrent.futures import ThreadPoolExecutor
 from contextlib import ExitStack, contextmanager
-from ctypes import byref, c_uint64, create_string_buffer
+from ctypes import byref, c_int32, c_int64, c_uint64, create_string_buffer
 from typing import Callable, Iterator, Mapping, Sequence, Tuple, TypeVar
 
 import numpy as np
 
 from .arrays import box_of, new_grid
 from .errors import RangeError, SceneTooLongError, TooLongFault
-from .forms import COORDINATE_SPAN, KINDS, MAX_FILE, MAX_NAME, MAX_TEXT
-from .library import BUFFER, Held, SceneHandle
+from .forms import COORDINATE_SPAN, KIND_NUMBERS, KINDS, MAX_FILE, MAX_NAME, MAX_TEXT, Kind
+from .library import BUFFER, Box, Held, SceneHandle
 
 NAME = b"a"
 Lender = Tuple[Held, Mapping[str, str]]  # a grid and its metadata
@@ -134,11 +135,15 @@ def same_cells(first: Held, second: Held, head: int, box: "Sequence[Sequence[int
     same = apart(same_files)
     if same is not None:
         return same
+    return all(same_cells(clipped(first, half), clipped(second, half), head, half) for half in halves(box))
+
+
+def halves(box: "Sequence[Sequence[int]]") -> "list[Sequence[Sequence[int]]]":
+    """Returns the halves of a box across its longest axis."""
     low, high = box
     axis = max(range(3), key=lambda axis: high[axis] - low[axis])
     middle = (low[axis] + high[axis]) // 2
-    halves = (low, (*high[:axis], middle, *high[axis + 1 :])), ((*low[:axis], middle + 1, *low[axis + 1 :]), high)
-    return all(same_cells(clipped(first, half), clipped(second, half), head, half) for half in halves)
+    return [(low, (*high[:axis], middle, *high[axis + 1 :])), ((*low[:axis], middle + 1, *low[axis + 1 :]), high)]
 
 
 def clipped(grid: Held, box: "Sequence[Sequence[int]]") -> Held:
@@ -146,3 +151,48 @@ def clipped(grid: Held, box: "Sequence[Sequence[int]]") -> Held:
     copy = copied(grid)
     copy.call("clip", box_of(*box))
     return copy
+
+
+def packed(grid: Held, pairs: "Mapping[str, str]", box: "Sequence[Sequence[int]] | None" = None) -> "list[bytes]":
+    """Returns a grid as scene files compressed by zlib: one, or if it is too long for a file those of its parts, which `unpacked` joins.
+
+    The first has the metadata and the background, and those of integers after it have the background 0. Parts are what lies outside the
+    bounding box of the active voxels, and in it, or halves of a box. Raises SumRangeError if a value less the background is outside the type.
+    """
+    with grid.lock:
+        with lent({NAME: (grid, pairs)}) as scene:
+            if scene.length() <= MAX_FILE:
+                return [zlib.compress(scene.encoding(), 1)]
+        kind, background = form_of(grid)
+        bounds, found = Box(), c_int32()
+        grid.call("bounds", byref(bounds), byref(found))
+        if box is None and found.value:
+            first, inner = copied(grid), [(at.x, at.y, at.z) for at in (bounds.min, bounds.max)]
+            first.call("fill", byref(bounds), background, 0)
+            places = [EVERYWHERE, inner]
+        else:
+            places = halves(box or EVERYWHERE)
+            first = clipped(grid, places[0])
+        second = clipped(grid, places[1])
+    if kind.number and background:
+        second.call_with("sum", new_grid(kind, -background, 1))
+    return [*packed(first, pairs, places[0]), *packed(second, {}, places[1])]
+
+
+def unpacked(parts: "Sequence[bytes]") -> "tuple[Held, dict[str, str]]":
+    """Returns the grid of parts and its metadata."""
+    scenes = (Encoded(zlib.decompress(data)) for data in parts)
+    first = next(scenes)
+    pairs, grid = first.metadata(NAME), first.take(NAME)
+    kind, background = form_of(grid)
+    for scene in scenes:
+        grid.call_with("sum" if kind.number else "minimum" if background else "maximum", scene.take(NAME))
+    return grid, pairs
+
+
+def form_of(grid: Held) -> "tuple[Kind, int]":
+    """Returns the type of values of a grid, and its background."""
+    number, background = c_int32(), c_int64()
+    grid.call("kind", byref(number))
+    grid.call("background", byref(background))
+    return KIND_NUMBERS[number.value], background.value

@@ -20,13 +20,14 @@ from typing import Any, Dict, Mapping, NamedTuple, Optional, Tuple
 
 import numpy as np
 
+from . import zarr_stores
 from .errors import MissingFileError, VdbWarning, VolumeError
 from .files import naming, replacing
 from .formats import nrrd
 
 #: The most bytes of a table.
 MOST_BYTES = 2**24
-ENDINGS = re.compile(r"(\.seg)?\.(vdbs|nii|nii\.gz|nrrd|nhdr|tiff?|vti|npy)$", re.IGNORECASE)
+ENDINGS = re.compile(r"(\.seg)?\.(vdbs|vdbs\.gz|nii|nii\.gz|nrrd|nhdr|tiff?|vti|npy)$", re.IGNORECASE)
 SNAP = re.compile(r'\s*(-?\d+)' + r"\s+(\d+)" * 3 + r'\s+\S+\s+\S+\s+\S+\s+"(.*)"\s*$')
 SEGMENT = re.compile(r"(Segment\d+)_LabelValue$")
 
@@ -50,6 +51,8 @@ def of(path: "str | os.PathLike[str]", grid: str = "") -> Names:
     """Returns the names of the labels of an image file, or of a grid of a scene file: those of its header, else of the table beside it.
     Without either it returns none. Raises VolumeError if a row of the table has another form, and FileError if it can't be read."""
     name = os.fspath(path)
+    if zarr_stores.is_store(name):
+        return of_image_label(zarr_stores.attributes_of(name).get("image-label", {}))
     for place in [name] * name.lower().endswith((".nrrd", ".nhdr")) + [table_of(name, grid), table_of(name)]:
         try:
             names = read(place)
@@ -172,7 +175,9 @@ def write(path: "str | os.PathLike[str]", names: Names) -> None:
 
 
 def keep(path: "str | os.PathLike[str]", names: Names, grid: str = "") -> None:
-    """Writes names to the table beside a file. If that isn't a table of names, it stays, which is a VdbWarning."""
+    """Writes names to the table beside a file, or to a store of zarr. If the table isn't one of names, it stays, which is a VdbWarning."""
+    if zarr_stores.is_store(path):
+        return zarr_stores.keep_label(os.fspath(path), image_label(names))
     table = table_of(path, grid)
     try:
         read(table)

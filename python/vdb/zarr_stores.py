@@ -12,6 +12,7 @@ A call that writes a volume makes a new group NAME, then replaces .zattrs, and t
 """
 from __future__ import annotations
 
+import contextlib
 import errno
 import json
 import os
@@ -138,6 +139,8 @@ class Volume(NamedTuple):
             if active is not None and not np.array_equal(states, shown):
                 self._array(store, 1)[here] = (states ^ shown).T
             ends = [np.flatnonzero(states.any(axis=axes))[[0, -1]] for axes in ((1, 2), (0, 2), (0, 1))] if states.any() else []
+            if f"{self.written}/.zgroup" not in store:  # another block failed, and what was written is removed
+                remove(store, self.written)
             return Entry(box, int(np.count_nonzero(states)), np.transpose(ends) + box[0] if ends else None, self._sums(store, part))
 
     def _array(self, store: Any, which: int) -> Any:
@@ -173,6 +176,14 @@ class Volume(NamedTuple):
 Compute = Callable[[Volume], "Iterable[Optional[Entry]]"]
 
 
+def dtype_of(kind: str, dtype: Any, values: "Sequence[Value]") -> str:
+    """Returns a dtype of integers if it holds some values of a type of grid, else that of the type. Booleans are bytes."""
+    if kind == "bool":
+        return "uint8"
+    span = np.iinfo(dtype)
+    return (np.dtype(dtype) if all(span.min <= value <= span.max for value in values) else KINDS[kind].dtype).name
+
+
 def sum_of(data: Any) -> int:
     """Returns the CRC-32 of some bytes, or 1 if that is 0."""
     return zlib.crc32(data) or 1
@@ -186,6 +197,11 @@ def store_of(path: str) -> Any:
 def is_local(path: str) -> bool:
     """Returns whether a path isn't a URL of fsspec."""
     return "://" not in path
+
+
+def is_store(path: "str | os.PathLike[str]") -> bool:
+    """Returns whether a path is that of a store by its ending, or of a group in one."""
+    return re.search(r"\.zarr(/|$)", os.fspath(path), re.IGNORECASE) is not None
 
 
 def path_of(path: "str | os.PathLike[str]") -> str:
@@ -283,9 +299,15 @@ def write_volume(path: str, form: Form, metadata: "Mapping[str, str]", label: "M
     finally:
         kept = attributes_of(path).get("vdb", {}).get("written")
         for name in [it for it in store.listdir("") if WRITTEN.match(it) and it != kept]:
-            store.rmdir(name)
+            remove(store, name)
         if not kept and not is_group:
             store.pop(".zgroup", None)
+
+
+def remove(store: Any, name: str) -> None:
+    """Removes a group, as far as nobody else does."""
+    with contextlib.suppress(OSError):
+        store.rmdir(name)
 
 
 def create(store: Any, made: Volume) -> Any:
@@ -321,6 +343,11 @@ def replace_attributes(path: str, attributes: "Mapping[str, Any]") -> None:
         return
     with replacing(os.path.join(path, ATTRIBUTES)) as file:
         file.write(data)
+
+
+def keep_label(path: str, label: "Mapping[str, Any]") -> None:
+    """Sets what the attribute image-label of a volume says."""
+    replace_attributes(path, {**attributes_of(path), "image-label": {"version": "0.4", **label}})
 
 
 def multiscales(made: Volume, metadata: "Mapping[str, str]") -> "Dict[str, Any]":

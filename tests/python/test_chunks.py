@@ -314,8 +314,11 @@ class Folders(Case):
             with self.assertRaisesRegex(chunks.ChunksFault, f"{path}: chunks: the chunk has other bytes"):
                 broken.dilate(1, self.folder / target)
         self.same(self.volume, self.grid)
-        self.assertEqual(len(os.listdir(broken.folder)), 3)
-        self.assertEqual(os.listdir(self.folder / "c"), [])
+        for _ in range(200):  # until blocks end that other threads worked on
+            if not os.listdir(self.folder / "c") and len(os.listdir(broken.folder)) == 3:
+                break
+            time.sleep(0.1)
+        self.assertEqual((len(os.listdir(broken.folder)), os.listdir(self.folder / "c")), (3, []))
         path.unlink()
         with self.assertRaisesRegex(chunks.ChunksFault, f"{path}: chunks: the chunk is missing"):
             broken.labels()
@@ -446,7 +449,10 @@ class Folders(Case):
         one.dilate(1)
         self.assertIsInstance(mask.grid(mask.bounds), vdb.Mask)
         self.same(mask, one)
-        self.same(volume.relabel({1: 70000}, self.folder / "b"), vdb.Grid.from_array(np.where(values == 1, 70000, values)))
+        small = self.written(values.astype(np.uint8), "c", side=8)
+        for found in (small.relabel({1: 70000}, self.folder / "b"), volume.relabel({1: 70000}, self.folder / "b")):
+            self.same(found, vdb.Grid.from_array(np.where(values == 1, 70000, values)))
+        self.same(self.written(values.astype(np.uint8), "c", side=8, background=-1), vdb.Grid.from_array(values, background=-1))
 
     def test_without_dask(self):
         text = (
