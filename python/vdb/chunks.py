@@ -32,7 +32,7 @@ from .label_names import Names
 from .manners import Voxels
 from .mask import Mask
 from .reading import MAX_BYTES, check_bytes
-from .zarr_stores import Box, ChunksFault, Compute, Entry, Form, Volume, around, dtype_of, grown, opened, path_of, read_volume, sides, write_volume
+from .zarr_stores import Box, ChunksFault, Compute, Entry, Form, Volume, around, dtype_of, grown, opened, path_of, read_volume, sides, slices, write_volume
 
 try:
     import dask
@@ -49,6 +49,8 @@ __all__ = ["Chunks", "ChunksFault", "open", "from_array", "convert"]
 
 #: A task works on a block of whole chunks, of about so many voxels along each axis.
 BLOCK = 256
+#: The calls that change states alone.
+OF_STATES = {"dilate", "erode", "unite", "subtract", "intersect"}
 
 Path = Union[str, "os.PathLike[str]"]
 Source = Union[Volume, Folder]
@@ -310,6 +312,12 @@ def blocks_of(form: Form, sources: "Sequence[tuple[Source, int]]") -> "list[Box]
     return [grown((at, np.minimum(at + side - 1, form.box[1])), 0) for at in low]
 
 
+def arrays_of(source: Source, box: Box) -> "tuple[np.ndarray, np.ndarray]":
+    """Returns the values and the states of a box."""
+    values, active = source.read(box)
+    return values, values != source.form.background if active is None else active
+
+
 def grid_of(source: Source, box: Box) -> Grid:
     """Returns the voxels of a box as a grid or a mask."""
     values, active = source.read(box)
@@ -339,9 +347,7 @@ def write_block(target: Volume, block: np.ndarray, block_info: Any = None) -> np
 
 def read_block(source: Source, low: Coordinate, fill: "Value | None", which: int, block_info: Any = None) -> np.ndarray:
     """Returns the values (`which` is 0) or the states (1) of a block of an array whose first voxel lies at `low`."""
-    values, active = source.read(box_of(low, block_info[None]["array-location"]))
-    if active is None and (which or fill is not None):
-        active = values != source.form.background
+    values, active = arrays_of(source, box_of(low, block_info[None]["array-location"]))
     return active if which else (values if fill is None else np.where(active, values, fill)).astype(KINDS[source.form.kind].dtype)
 
 
@@ -349,7 +355,13 @@ def change_block(
     source: Source, other: "Source | None", name: str, arguments: tuple, halo: int, target: Volume, box: Box
 ) -> "Entry | None":
     """Writes a block of a volume to another one, changed."""
-    made = called(name, arguments, grid_of(source, grown(box, halo)), grid_of(other, box) if other else None)
+    near = grown(box, halo)
+    if name in OF_STATES:  # then no value goes into a grid
+        values, active = arrays_of(source, near)
+        second = Grid.from_array(arrays_of(other, box)[1], origin=box[0]) if other else None
+        states = called(name, arguments, Grid.from_array(active, origin=near[0]), second).active[slices(box, (0, 0, 0))]
+        return target.write(box, states if source.form.is_mask else values[slices(box, near[0])], states)
+    made = called(name, arguments, grid_of(source, near), None)
     shape, dtype = sides(box)[::-1], np.bool_ if made.kind == "bool" else target.form.dtype  # the store has the axes z, y, x
     return target.write(box, *made.to_array(box, out=(np.empty(shape, dtype).T, np.empty(shape, np.bool_).T)))
 

@@ -138,11 +138,12 @@ def same_cells(first: Held, second: Held, head: int, box: "Sequence[Sequence[int
     return all(same_cells(clipped(first, half), clipped(second, half), head, half) for half in halves(box))
 
 
-def halves(box: "Sequence[Sequence[int]]") -> "list[Sequence[Sequence[int]]]":
-    """Returns the halves of a box across its longest axis."""
-    low, high = box
+def halves(box: "Sequence[Sequence[int]]", inner: "Sequence[Sequence[int]] | None" = None) -> "list[Sequence[Sequence[int]]]":
+    """Returns the parts of a box on both sides of its middle, or of the middle of a box in it, across the longest axis of that."""
+    low, high = inner or box
     axis = max(range(3), key=lambda axis: high[axis] - low[axis])
     middle = (low[axis] + high[axis]) // 2
+    low, high = box
     return [(low, (*high[:axis], middle, *high[axis + 1 :])), ((*low[:axis], middle + 1, *low[axis + 1 :]), high)]
 
 
@@ -153,30 +154,26 @@ def clipped(grid: Held, box: "Sequence[Sequence[int]]") -> Held:
     return copy
 
 
-def packed(grid: Held, pairs: "Mapping[str, str]", box: "Sequence[Sequence[int]] | None" = None) -> "list[bytes]":
-    """Returns a grid as scene files compressed by zlib: one, or if it is too long for a file those of its parts, which `unpacked` joins.
+def packed(grid: Held, pairs: "Mapping[str, str]", box: "Sequence[Sequence[int]]" = EVERYWHERE) -> "list[bytes]":
+    """Returns a grid as scene files compressed by zlib: one, or if it is too long for a file those of its parts, which `unpacked` joins. It
+    has nothing outside the box.
 
-    The first has the metadata and the background, and those of integers after it have the background 0. Parts are what lies outside the
-    bounding box of the active voxels, and in it, or halves of a box. Raises SumRangeError if a value less the background is outside the type.
+    The first has the metadata and the background, and those of integers after it have the background 0. Raises SumRangeError if a value
+    less the background is outside the type.
     """
     with grid.lock:
         with lent({NAME: (grid, pairs)}) as scene:
             if scene.length() <= MAX_FILE:
                 return [zlib.compress(scene.encoding(), 1)]
-        kind, background = form_of(grid)
         bounds, found = Box(), c_int32()
         grid.call("bounds", byref(bounds), byref(found))
-        if box is None and found.value:
-            first, inner = copied(grid), [(at.x, at.y, at.z) for at in (bounds.min, bounds.max)]
-            first.call("fill", byref(bounds), background, 0)
-            places = [EVERYWHERE, inner]
-        else:
-            places = halves(box or EVERYWHERE)
-            first = clipped(grid, places[0])
-        second = clipped(grid, places[1])
+        corners = [(at.x, at.y, at.z) for at in (bounds.min, bounds.max)]
+        first, second = halves(box, corners if found.value and corners[0] != corners[1] else box)
+        one, other = clipped(grid, first), clipped(grid, second)
+    kind, background = form_of(grid)
     if kind.number and background:
-        second.call_with("sum", new_grid(kind, -background, 1))
-    return [*packed(first, pairs, places[0]), *packed(second, {}, places[1])]
+        other.call_with("sum", new_grid(kind, -background, 1))
+    return [*packed(one, pairs, first), *packed(other, {}, second)]
 
 
 def unpacked(parts: "Sequence[bytes]") -> "tuple[Held, dict[str, str]]":

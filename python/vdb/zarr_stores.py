@@ -305,9 +305,11 @@ def write_volume(path: str, form: Form, metadata: "Mapping[str, str]", label: "M
 
 
 def remove(store: Any, name: str) -> None:
-    """Removes a group, as far as nobody else does."""
-    with contextlib.suppress(OSError):
-        store.rmdir(name)
+    """Removes a group, which others may write to or remove meanwhile."""
+    store.pop(f"{name}/.zgroup", None)  # who writes to it from now on removes it once more
+    for _ in range(9):
+        with contextlib.suppress(OSError):
+            return store.rmdir(name)
 
 
 def create(store: Any, made: Volume) -> Any:

@@ -313,12 +313,13 @@ class Folders(Case):
         for target in ("a", "b", "c"):
             with self.assertRaisesRegex(chunks.ChunksFault, f"{path}: chunks: the chunk has other bytes"):
                 broken.dilate(1, self.folder / target)
-        self.same(self.volume, self.grid)
         for _ in range(200):  # until blocks end that other threads worked on
-            if not os.listdir(self.folder / "c") and len(os.listdir(broken.folder)) == 3:
+            left = [len(os.listdir(self.folder / name)) for name in "abc"]
+            if left == [3, 3, 0]:
                 break
             time.sleep(0.1)
-        self.assertEqual((len(os.listdir(broken.folder)), os.listdir(self.folder / "c")), (3, []))
+        self.assertEqual(left, [3, 3, 0])
+        self.same(self.volume, self.grid)
         path.unlink()
         with self.assertRaisesRegex(chunks.ChunksFault, f"{path}: chunks: the chunk is missing"):
             broken.labels()
@@ -450,8 +451,8 @@ class Folders(Case):
         self.assertIsInstance(mask.grid(mask.bounds), vdb.Mask)
         self.same(mask, one)
         small = self.written(values.astype(np.uint8), "c", side=8)
-        for found in (small.relabel({1: 70000}, self.folder / "b"), volume.relabel({1: 70000}, self.folder / "b")):
-            self.same(found, vdb.Grid.from_array(np.where(values == 1, 70000, values)))
+        for one in (small, volume):
+            self.same(one.relabel({1: 70000}, self.folder / "d"), vdb.Grid.from_array(np.where(values == 1, 70000, values)))
         self.same(self.written(values.astype(np.uint8), "c", side=8, background=-1), vdb.Grid.from_array(values, background=-1))
 
     def test_without_dask(self):
