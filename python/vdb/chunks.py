@@ -15,6 +15,7 @@ one grid that holds the whole volume. docs/TOOLS.md of the repository shows more
 from __future__ import annotations
 
 import os
+import warnings
 from functools import partial
 from typing import Any, Callable, Mapping, Sequence, Union
 
@@ -23,7 +24,7 @@ import numpy as np
 from . import label_names
 from .blocks import Labels, grouped, joined
 from .chunk_files import Folder, read_folder
-from .errors import DtypeError, MissingFileError, RangeError
+from .errors import DtypeError, MissingFileError, RangeError, VdbWarning
 from .forms import KINDS, Array, Bounds, Coordinate, Metadata, Value, check_bounds, check_box, kind_of_array, narrowed
 from .grid import Grid
 from .image_view import dtype_of as image_dtype
@@ -261,6 +262,8 @@ def from_array(
     pairs = Metadata(metadata)
     if isinstance(values, (str, os.PathLike)):
         found = opened(path_of(values))
+        if found.has_states:
+            warnings.warn(f"{values}: the states of the volume aren't taken: chunks.convert copies them", VdbWarning, stacklevel=2)
         values = found.turned(dask.array.from_zarr(found.array))
         low = check_box(origin, values.shape)
         Image(low, values.shape, values.dtype, moved(found.affine, [-at for at in low]), found.notes).keep(pairs)

@@ -164,11 +164,11 @@ def packed(grid: Held, pairs: "Mapping[str, str]", box: "Sequence[Sequence[int]]
     with grid.lock:
         with lent({NAME: (grid, pairs)}) as scene:
             if scene.length() <= MAX_FILE:
-                return [zlib.compress(scene.encoding(), 1)]
+                return [zlib.compress(scene.encoding().data, 1)]
         bounds, found = Box(), c_int32()
         grid.call("bounds", byref(bounds), byref(found))
-        corners = [(at.x, at.y, at.z) for at in (bounds.min, bounds.max)]
-        first, second = halves(box, corners if found.value and corners[0] != corners[1] else box)
+        low, high = ((at.x, at.y, at.z) for at in (bounds.min, bounds.max))
+        first, second = halves(box, (low, high) if found.value and low != high else box)
         one, other = clipped(grid, first), clipped(grid, second)
     kind, background = form_of(grid)
     if kind.number and background:

@@ -139,10 +139,14 @@ def of_segments(fields: "Mapping[str, str]") -> Names:
 
 
 def of_image_label(label: "Mapping[str, Any]") -> Names:
-    """Returns the names and colours that the attribute image-label of OME-Zarr has."""
-    colours = {int(it["label-value"]): (*it["rgba"][:3],) for it in label.get("colors", ()) if "rgba" in it}
-    texts = {int(it["label-value"]): str(it.get("name", "")) for it in label.get("properties", ())}
-    return {value: Label(texts.get(value, ""), colours.get(value)) for value in sorted({**texts, **colours})}
+    """Returns the names and colours that the attribute image-label of OME-Zarr has. Raises VolumeError if it has another form."""
+    try:
+        colours = {int(it["label-value"]): it["rgba"] for it in label.get("colors", ()) if "rgba" in it}
+        texts = {int(it["label-value"]): str(it.get("name", "")) for it in label.get("properties", ())}
+        parts = {value: (int(red), int(green), int(blue)) for value, (red, green, blue, *_) in colours.items()}
+    except (AttributeError, KeyError, TypeError, ValueError) as error:
+        raise VolumeError(f"the attribute image-label has another form: {type(error).__name__}: {error}") from error
+    return {value: Label(texts.get(value, ""), parts.get(value)) for value in sorted({*texts, *parts})}
 
 
 def image_label(names: Names) -> "Dict[str, Any]":

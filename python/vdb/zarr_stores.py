@@ -102,7 +102,7 @@ class Entry(NamedTuple):
     """What was written to a box: how many voxels are active, their bounding box, or None if none is, and the checksums of the chunks."""
 
     box: Box
-    count: int
+    voxels: int
     bounds: "Box | None"
     sums: np.ndarray
 
@@ -289,7 +289,7 @@ def write_volume(path: str, form: Form, metadata: "Mapping[str, str]", label: "M
             made.sums[form.chunks(entry.box)] = entry.sums
         bounds = around(entry.bounds for entry in entries)
         found = {
-            "version": VERSION, "written": made.written, **form._asdict(), "count": sum(entry.count for entry in entries),
+            "version": VERSION, "written": made.written, **form._asdict(), "count": sum(entry.voxels for entry in entries),
             "bounds": None if bounds is None else bounds.tolist(), "sums": sum_of(made.sums.tobytes()), "metadata": dict(metadata),
         }  # fmt: skip
         with naming(path):
@@ -368,13 +368,14 @@ def multiscales(made: Volume, metadata: "Mapping[str, str]") -> "Dict[str, Any]"
 
 class Opened(NamedTuple):
     """An array of a store: the order of its axes x, y and z, its others having one index, the affine (3 x 4) of its indices, notes of
-    vdb.images, and what image-label says."""
+    vdb.images, what image-label says, and whether it is a volume with states."""
 
     array: Any
     order: "List[int]"
     affine: np.ndarray
     notes: "Dict[str, str]"
     label: "Mapping[str, Any]"
+    has_states: bool
 
     def turned(self, array: Any) -> Any:
         """Returns the array, or one of its form, with the axes x, y, z."""
@@ -393,7 +394,7 @@ def opened(path: str) -> Opened:
             os.stat(path)
     try:
         found = library.open(path, mode="r")
-        return Opened(found, [0, 1, 2], identity(), {}, {}) if isinstance(found, library.Array) else level_0(found)
+        return Opened(found, [0, 1, 2], identity(), {}, {}, False) if isinstance(found, library.Array) else level_0(found)
     except Exception as error:
         raise VolumeError(f"no image of zarr: {type(error).__name__}: {error}", path) from error
 
@@ -414,7 +415,8 @@ def level_0(group: Any) -> Opened:
         affine = changed(affine, change, order)
     units = [UNITS.get(axes[at].get("unit", ""), axes[at].get("unit", "")) for at in order]
     notes = {"image_units": ",".join(units[:1] if len({*units}) == 1 else units)} if all(units) else {}
-    return Opened(array, order, affine, notes, attributes.get("image-label", {}))
+    has_states = "vdb" in attributes and any(group[level["path"][: -len(ARRAYS[0])] + SUMS][1].flat)
+    return Opened(array, order, affine, notes, attributes.get("image-label", {}), has_states)
 
 
 def changed(affine: np.ndarray, change: "Mapping[str, Any]", order: "List[int]") -> np.ndarray:

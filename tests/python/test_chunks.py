@@ -257,7 +257,8 @@ class Images(Case):
         self.assertEqual((label["version"], label["colors"]), ("0.4", [{"label-value": 1, "rgba": [255, 136, 0, 255]}]))
         self.assertEqual(label["properties"], [{"label-value": 1, "name": "liver"}, {"label-value": 3, "name": "left kidney"}])
         self.assertEqual(volume.names, names)
-        self.assertEqual(self.written(volume.folder, "c").names, names)
+        with self.assertWarnsRegex(vdb.VdbWarning, "b: the states of the volume aren't taken"):
+            self.assertEqual(self.written(volume.folder, "c").names, names)
         self.assertEqual(volume.select(1, self.folder / "c").names, {})
         self.assertEqual(zarr.open_group(str(self.folder / "c"), "r")[f"{chunks.open(self.folder / 'c')._source.written}/0"].dtype, np.uint8)
         turned = self.written(values, "d", metadata={"affine_x": "0,-2,0,5", "affine_y": "3,0,0,6", "affine_z": "0,0,1,7"})
@@ -466,11 +467,19 @@ class Folders(Case):
         with mock.patch.dict(sys.modules, {"zarr": None}), self.assertRaisesRegex(ImportError, "python3-zarr"):
             self.written("z", "b")
 
+    def test_bytes(self):
+        """A full volume takes at most 1.3 times the bytes of zarr's own array."""
+        values, bytes_of = labels_of(1, (128, 64, 64), 1), []
+        zarr.save_array(str(self.folder / "z"), values, chunks=64)
+        for folder in ("z", Path(self.written(values, "b", side=64).folder).name):
+            bytes_of.append(sum(it.stat().st_size for it in Path(self.folder, folder).rglob("*") if it.is_file()))
+        self.assertLess(bytes_of[1], 1.3 * bytes_of[0])
+
     def test_memory(self):
         """A volume of 4 GiB as an array passes through 2 GiB of addresses. The program fails if its result isn't what it computes."""
         words = [sys.executable, str(Path(__file__).with_name("chunks_memory.py")), "1024", "2"]
         environment = {**os.environ, "PYTHONPATH": str(TOP / "python")}
-        ran = subprocess.run(words, env=environment, capture_output=True, text=True, timeout=300)
+        ran = subprocess.run(words, env=environment, capture_output=True, text=True, timeout=900)
         self.assertEqual((ran.returncode, ran.stderr), (0, ""), ran.stdout)
         self.assertRegex(ran.stdout, r"1024\^3 voxels")
 

@@ -83,6 +83,11 @@ class Stores(CommandCase):
         with self.assertRaisesRegex(vdb.VolumeError, "array.zarr: another array"):
             formats.save(self.folder / "array.zarr", vdb.Grid.from_array(values))
 
+    def test_names_of_another_form(self):
+        for wrong in ([], {"colors": [{"rgba": [1, 2, 3, 4]}]}, {"colors": [{"label-value": 1, "rgba": [1]}]}, {"properties": [{"label-value": "a"}]}):
+            with self.subTest(wrong), self.assertRaisesRegex(vdb.VolumeError, "the attribute image-label has another form"):
+                label_names.of_image_label(wrong)
+
     def test_convert_there_and_back_with_names(self):
         values = np.zeros((10, 9, 8), np.uint8)
         values[2:5, 2:4, 1:7] = 3

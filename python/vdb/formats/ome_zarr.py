@@ -30,9 +30,9 @@ def read(path: str, max_bytes: int, floats: bool = False) -> Volume:
     form, about = volume.form, attributes["vdb"]
     image, box = Image.of(about["metadata"]), form.box
     if image and image.bounds:
-        outside = zarr_stores.around([image.bounds, about["bounds"]])
-        if np.array_equal(outside, image.bounds):
-            box = np.array(image.bounds)
+        own = np.array(image.bounds)
+        if np.array_equal(zarr_stores.around([own, about["bounds"]]), own):  # type: ignore[arg-type]
+            box = own
         else:
             warnings.warn(f"{path}: active voxels lie outside the image, which becomes larger", VdbWarning, stacklevel=4)
     allow(zarr_stores.sides(box), np.dtype(form.dtype), max_bytes)
