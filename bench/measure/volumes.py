@@ -92,9 +92,10 @@ def size(path):
 
 def main():
     if len(sys.argv) == 5:
-        return one(sys.argv[1], sys.argv[2], sys.argv[4])
+        return one(sys.argv[1], sys.argv[2], sys.argv[4]) if sys.argv[2] != "source" else source(int(sys.argv[3]), sys.argv[4])
     side, folder = int(sys.argv[1]), sys.argv[2]
-    source(side, folder)
+    # a process of its own, since the peak of a process is at least that of the one that starts it
+    subprocess.run([sys.executable, __file__, "one", "source", str(side), folder], check=True)
     rows = []
     for call in ("write", "dilate", "labels"):
         found = {}

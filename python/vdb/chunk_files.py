@@ -55,7 +55,8 @@ def read_folder(path: str) -> "tuple[Folder, Dict[str, Any]]":
     bounds = around(it[1] for it in rows.values())
     about["bounds"] = None if bounds is None else check_bounds(bounds)
     if box is not None:
-        form = form._replace(side=side, low=tuple((box[0] * side).tolist()), shape=tuple((np.array(sides(box)) * side).tolist()))
+        x, y, z = sides(box)
+        form = form._replace(side=side, low=tuple((box[0] * side).tolist()), shape=(x * side, y * side, z * side))
     sums = no_sums(form)
     for at in rows:
         sums[(0, *np.subtract(at, box[0])[::-1])] = 1

@@ -33,7 +33,9 @@ from .label_names import Names
 from .manners import Voxels
 from .mask import Mask
 from .reading import MAX_BYTES, check_bytes
-from .zarr_stores import Box, ChunksFault, Compute, Entry, Form, Volume, around, dtype_of, grown, opened, path_of, read_volume, sides, slices, write_volume
+from .zarr_stores import (
+    Box, ChunksFault, Compute, Entry, Form, Volume, around, dtype_of, grown, opened, path_of, read_volume, sides, slices, write_volume,
+)  # fmt: skip
 
 try:
     import dask
@@ -220,20 +222,21 @@ class Chunks(Voxels):
         voxels away, may activate some as far from the active ones of the volume `grows`, and may write the `values`."""
         source, form = self._source, self._source.form
         new = Mask(metadata=self.metadata) if form.is_mask else Grid(self.kind, self.background, metadata=self.metadata)
-        made = called(name, arguments, new, other and Grid("bool"))  # raises the error of a wrong argument
+        made = called(name, arguments, new, Grid("bool") if other else None)  # raises the error of a wrong argument
         metadata = made.metadata if other is None or ignore_geometry else agreed(made.metadata, other.metadata, made.dtype)
         box = form.box if min(form.shape) else None
         if grows and grows.bounds:
             box = around([box, grown(grows.bounds, halo)])
+        low, shape = (form.low, form.shape) if box is None else (box[0], sides(box))
         dtype = dtype_of(made.kind, form.dtype, values)
-        form = Form(made.kind, made.background, isinstance(made, Mask), dtype, *((box[0], sides(box)) if box is not None else form[4:6]), self.side)
-        boxes = blocks_of(form.check(), [(source, halo if grows else 0), *([(grows._source, halo)] if grows else [])])
+        form = Form(made.kind, made.background, isinstance(made, Mask), dtype, low, shape, min(self.side, 512)).check()
+        boxes = blocks_of(form, [(source, halo if grows else 0), *([(grows._source, halo)] if grows else [])])
 
         def compute(target: Volume) -> "Sequence[Entry | None]":
             task = dask.delayed(partial(change_block, source, other and other._source, name, arguments, halo, target))
             return run([task(it) for it in boxes])
 
-        return written(folder, form.check(), metadata, self.names if made.kind == self.kind else {}, compute)
+        return written(folder, form, metadata, self.names if made.kind == self.kind else {}, compute)
 
 
 open = Chunks
@@ -365,7 +368,9 @@ def change_block(
         states = called(name, arguments, Grid.from_array(active, origin=near[0]), second).active[slices(box, (0, 0, 0))]
         return target.write(box, states if source.form.is_mask else values[slices(box, near[0])], states)
     made = called(name, arguments, grid_of(source, near), None)
-    shape, dtype = sides(box)[::-1], np.bool_ if made.kind == "bool" else target.form.dtype  # the store has the axes z, y, x
+    if target.form.is_mask:
+        return target.write(box, made[slices(box, (0, 0, 0))])
+    shape, dtype = sides(box)[::-1], np.dtype(bool if made.kind == "bool" else target.form.dtype)  # the store has the axes z, y, x
     return target.write(box, *made.to_array(box, out=(np.empty(shape, dtype).T, np.empty(shape, np.bool_).T)))
 
 

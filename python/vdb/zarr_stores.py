@@ -15,6 +15,7 @@ from __future__ import annotations
 import contextlib
 import errno
 import json
+import math
 import os
 import re
 import secrets
@@ -31,6 +32,8 @@ from .images import affine_of, identity, moved
 
 ARRAYS, SUMS, ATTRIBUTES = ("0", "toggled"), "sums", ".zattrs"
 VERSION = 2
+#: The most chunks that the box of a volume may have, absent ones too.
+MOST_CHUNKS = 2**27
 #: The form of the name of a group that one call wrote.
 WRITTEN = re.compile(r"[0-9a-f]{16}\Z")
 #: The axes of images of OME-Zarr up to version 0.2, which don't name them.
@@ -38,8 +41,8 @@ AXES = "tczyx"
 #: The short names of units.
 UNITS = {"meter": "m", "millimeter": "mm", "micrometer": "um", "nanometer": "nm"}
 
-#: The least and the greatest corner of a box, both included (2 x 3, int64).
-Box = np.ndarray
+#: The least and the greatest corner of a box, both included: an array (2 x 3, int64), or what NumPy makes one of.
+Box = Any
 
 
 class ChunksFault(FormatError):
@@ -70,7 +73,17 @@ class Form(NamedTuple):
         (x, y, z), shape = map(int, self.low), tuple(map(int, self.shape))
         if np.dtype(self.dtype).kind not in "iu" or len(shape) != 3 or min(shape) < 0:
             raise RangeError(f"the dtype {self.dtype} isn't of integers, or {self.shape} no shape")
-        return self._replace(side=int(self.side), low=(x, y, z), shape=shape)  # type: ignore[arg-type]
+        made = self._replace(side=int(self.side), low=(x, y, z), shape=shape)  # type: ignore[arg-type]
+        made.counts
+        return made
+
+    @property
+    def counts(self) -> "Tuple[int, ...]":
+        """How many chunks the array has along z, y and x. Raises RangeError if there are too many for the list of their checksums."""
+        found = tuple(-(-length // self.side) for length in self.shape[::-1])
+        if math.prod(found) > MOST_CHUNKS:
+            raise RangeError(f"the box of a volume has at most {MOST_CHUNKS:,} chunks, not {' x '.join(map(str, found))}: choose a larger side")
+        return found
 
     @property
     def box(self) -> Box:
@@ -94,7 +107,7 @@ class Form(NamedTuple):
 
     def cuts(self, side: int, low: Sequence[int], shape: Sequence[int]) -> "Tuple[Tuple[int, ...], ...]":
         """Returns the lengths of the parts into which the borders of cubes of a side cut each axis of a box."""
-        axes = [[first, *range(first - (first - at) % side + side, first + length, side), first + length] for at, first, length in zip(self.low, low, shape)]
+        axes = [[it, *range(it - (it - at) % side + side, it + length, side), it + length] for at, it, length in zip(self.low, low, shape)]
         return tuple(tuple(past - first for first, past in zip(ends, ends[1:])) for ends in axes)
 
 
@@ -264,7 +277,7 @@ def read_volume(path: str) -> "Tuple[Volume, Dict[str, Any]]":
 
 def no_sums(form: Form) -> np.ndarray:
     """Returns the checksums of a volume without chunks."""
-    return np.zeros((2, *(-(-length // form.side) for length in form.shape[::-1])), np.uint32)
+    return np.zeros((2, *form.counts), np.uint32)
 
 
 def write_volume(path: str, form: Form, metadata: "Mapping[str, str]", label: "Mapping[str, Any]", compute: Compute) -> None:

@@ -300,6 +300,9 @@ class Folders(Case):
         ):  # fmt: skip
             with self.subTest(more=more), self.assertRaises(error):
                 self.written(values, "b", **more)
+        far = self.written(np.ones((1, 1, 1), np.int32), "c", side=8, origin=(MOST, 0, 30000))
+        with self.assertRaisesRegex(vdb.RangeError, "at most 134,217,728 chunks, not 3751 x 3 x 268435456: choose a larger side"):
+            self.volume.unite(far, self.folder / "b")
         self.assertFalse((self.folder / "b").exists())
         self.same(self.volume, self.grid)
 

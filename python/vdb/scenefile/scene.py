@@ -87,7 +87,8 @@ def load(path: "str | os.PathLike[str]", progress: Optional[Progress] = None, *,
     if digest:
         check_digest(path, view)
     found = unzipped(path, view, MAX_FILE + 1)
-    data = data if found is view else bytearray(found) + bytes(PADDING)
+    if found is not view:
+        data = found + bytes(PADDING)
     return _scene(Reader(data, os.fspath(path), progress))
 
 
