@@ -7,8 +7,9 @@ import sys
 from .parts import room, row, table
 from .places import BENCH, Failed
 
-# the sides of the arrays in voxels
+# the sides of the arrays in voxels, and those of the volumes past memory
 SIDE, QUICK_SIDE = 512, 128
+VOLUME_SIDE, QUICK_VOLUME_SIDE = 1024, 256
 
 # seconds after which the measurement is ended
 LIMIT = 3600
@@ -22,14 +23,20 @@ def with_numpy():
     raise Failed("no interpreter has NumPy: install python3-numpy")
 
 
-def measure(runs, quick):
-    side = QUICK_SIDE if quick else SIDE
+def printed(program, *numbers):
+    """Returns the JSON that a program of this folder prints for some numbers and a new folder."""
     with room() as folder:
-        words = [with_numpy(), f"{BENCH}/measure/package.py", str(runs), str(side), folder]
+        words = [with_numpy(), f"{BENCH}/measure/{program}", *map(str, numbers), folder]
         ran = subprocess.run(words, stdin=subprocess.DEVNULL, capture_output=True, text=True, timeout=LIMIT)
     if ran.returncode:
-        raise Failed(f"measure/package.py failed: {(ran.stderr.strip() or 'no reason').splitlines()[-1]}")
-    found = json.loads(ran.stdout)
+        raise Failed(f"measure/{program} failed: {(ran.stderr.strip() or 'no reason').splitlines()[-1]}")
+    return json.loads(ran.stdout)
+
+
+def measure(runs, quick):
+    side = QUICK_SIDE if quick else SIDE
+    found = printed("package.py", runs, side)
+    found["volumes"] = printed("volumes.py", QUICK_VOLUME_SIDE if quick else VOLUME_SIDE)
     note = (
         f"Cubes of {side} `int32` labels along each axis become a grid and a scene file by `from_array` and `save`, and an array again by `load` and"
         f" `to_array`, beside `numpy.save`, `numpy.load` and a copy. The files lie in memory. {found['versions']}."
@@ -46,5 +53,6 @@ def measure(runs, quick):
         of("blocks", "dense blocks", "`from_array`, and the calls of `vdb_grid_write_box` alone.", "from_array", "C", "ns per voxel"),
         of("labels", "labels", "Calls on the grids of these labels, and walks over their leaves.", "vdb", "leaves()", raw="leaves as arrays"),
         of("booleans", "booleans", "The same spheres as booleans. Its copies of arrays use all threads.", "vdb", "pyopenvdb"),
+        of("volumes", "volumes past memory", "Labels of cells in a zarr store on two threads, once. Figures of dask come second.", "vdb.chunks", "dask with SciPy"),
         of("scene", "a scene", "`vdb.scenefile.load` beside a run of `vdb --load`.", "vdb.scenefile", "vdb --load"),
     ]

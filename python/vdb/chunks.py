@@ -1,11 +1,11 @@
 # SPDX-License-Identifier: Apache-2.0
-"""Label volumes past the memory of one machine: a folder of scene files, one per chunk, which dask's schedulers change.
+"""Label volumes past the memory of one machine: zarr stores that dask's schedulers change, block by block.
 
     from dask.diagnostics import ProgressBar
     from vdb import chunks
     with ProgressBar():
-        labels = chunks.from_array("labels.zarr", "labels")
-        margin = labels.select(3, "organ").dilate(2, "margin").subtract(labels, "margin")
+        labels = chunks.from_array("image.zarr", "labels.zarr")
+        margin = labels.select(3, "organ.zarr").dilate(2, "margin.zarr").subtract(labels, "margin.zarr")
     print(margin.count, margin.bounds)
 
 `tqdm.dask.TqdmCallback`, or any other callback of dask, reports in place of `ProgressBar`.
@@ -15,113 +15,148 @@ one grid that holds the whole volume. docs/TOOLS.md of the repository shows more
 from __future__ import annotations
 
 import os
+import warnings
 from functools import partial
-from itertools import product
-from typing import Any, Iterable, Mapping, Sequence
+from typing import Any, Callable, Mapping, Sequence, Union
 
 import numpy as np
 
+from . import label_names
 from .blocks import Labels, grouped, joined
-from .chunk_files import (
-    Change, ChunksFault, Compute, Entry, Form, Number, change_chunk, chosen, combined, labels_of, morphed, path_of, read_block, read_index,
-    three, write_block, write_volume,
-)  # fmt: skip
-from .errors import DtypeError, RangeError
-from .forms import COORDINATE_SPAN, KINDS, Array, Bounds, Metadata, Value, check_bounds, check_box, kind_of_array, narrowed
+from .chunk_files import Folder, read_folder
+from .errors import DtypeError, MissingFileError, RangeError, VdbWarning
+from .forms import KINDS, Array, Bounds, Coordinate, Metadata, Value, check_bounds, check_box, kind_of_array, narrowed
 from .grid import Grid
-from .image_view import dtype_of
+from .image_view import dtype_of as image_dtype
 from .images import Image, agreed, moved
+from .label_names import Names
 from .manners import Voxels
+from .mask import Mask
 from .reading import MAX_BYTES, check_bytes
-from .zarr_stores import PACKAGES, opened
+from .zarr_stores import (
+    Box, ChunksFault, Compute, Entry, Form, Volume, around, dtype_of, grown, opened, path_of, read_volume, sides, slices, write_volume,
+)  # fmt: skip
 
 try:
     import dask
     import dask.array
+    import zarr
     from dask.base import get_scheduler
     from dask.callbacks import Callback
     from dask.diagnostics import ProgressBar
 except ImportError as error:
-    raise ImportError(f"vdb.chunks needs dask ({error}): {PACKAGES}") from error
+    packages = "Debian has it as python3-dask, with python3-distributed for clusters and python3-zarr for zarr stores"
+    raise ImportError(f"vdb.chunks needs dask and zarr ({error}): {packages}") from error
 
-__all__ = ["Chunks", "ChunksFault", "from_array"]
+__all__ = ["Chunks", "ChunksFault", "open", "from_array", "convert"]
+
+#: A task works on a block of whole chunks, of about so many voxels along each axis.
+BLOCK = 256
+#: The calls that change states alone.
+OF_STATES = {"dilate", "erode", "unite", "subtract", "intersect"}
+
+Path = Union[str, "os.PathLike[str]"]
+Source = Union[Volume, Folder]
 
 
 class Chunks(Voxels):
-    """A label volume as a folder of scene files, one for each chunk that has more than the background, inactive.
+    """A label volume in a zarr store, a label image of OME-Zarr with the axes z, y, x. Chunks that hold only the background, inactive, are
+    absent. `folder` is a path, or a URL of fsspec.
 
-    Chunks are cubes of `side` voxels along each axis, and the least corner of each is a multiple of `side`. A call that makes a volume has
-    the arguments of that of `Grid`, then the folder for the result, and returns it. When all its files are written, the result replaces a
-    volume that is in that folder, which may be the one called. `Chunks` of the replaced one can't be used then. After an error, or if the
-    program ends in the middle, the folder has the old volume. Only one call at a time may write to a folder.
+    A call that makes a volume has the arguments of that of `Grid`, then the folder for the result, and returns it. When all of it is
+    written, the result replaces a volume that is in that folder, which may be the one called. `Chunks` of the replaced one can't be used
+    then. After an error, or if the program ends in the middle, the folder has the old volume. Only one call at a time may write to a folder.
+    Reading compares each chunk with its checksum, and raises ChunksFault, which names it, if it is missing or has other bytes.
 
     Examples
     --------
-    >>> organ = chunks.from_array(np.full((9, 9, 9), 3), "labels", side=8).select(3, "organ")
-    >>> organ.dilate(1, "margin").subtract(organ, "margin").count
+    >>> organ = chunks.from_array(np.full((9, 9, 9), 3), "labels.zarr", side=8).select(3, "organ.zarr")
+    >>> organ.dilate(1, "margin.zarr").subtract(organ, "margin.zarr").count
     486
     """
 
     _dense = "chunks.to_array(bounds)[0], an array of dask"
 
-    def __init__(self, folder: "str | os.PathLike[str]") -> None:
-        """Opens the volume in a folder. Raises MissingFileError if there is none, and ChunksFault if its index has another form."""
-        self.folder = os.path.abspath(os.fspath(folder))
-        self._index = read_index(self.folder)
+    def __init__(self, folder: Path) -> None:
+        """Opens the volume in a folder, also one of scene files that version 1.1 wrote. Raises MissingFileError if there is none, and
+        ChunksFault if it has another form."""
+        self.folder = path_of(folder)
+        self._source: Source
+        try:
+            self._source, self._attributes = read_volume(self.folder)
+        except MissingFileError as error:
+            try:
+                self._source, self._attributes = read_folder(self.folder)
+            except MissingFileError:
+                raise error from None
+        self._about = self._attributes["vdb"]
 
     @property
     def kind(self) -> str:
         """The type of values: "bool", "i32" or "i64"."""
-        return self._index.form.kind
+        return self._source.form.kind
 
     @property
     def background(self) -> Value:
         """The value of every voxel that nothing was written to."""
-        return self._index.form.background
+        return self._source.form.background
 
     @property
     def side(self) -> int:
         """How many voxels a chunk has along each axis."""
-        return self._index.form.side
+        return self._source.form.side
 
     @property
     def metadata(self) -> Metadata:
         """The metadata pairs, which are those of a grid (a copy). Each volume that is made of this one keeps those of its image."""
-        return Metadata(self._index.metadata)
+        return Metadata(self._about["metadata"])
+
+    @property
+    def names(self) -> Names:
+        """The names of labels by their values. Each volume of values that is made of this one keeps them."""
+        return label_names.of_image_label(self._attributes.get("image-label", {}))
 
     @property
     def count(self) -> int:
         """How many voxels are active."""
-        return sum(entry.active for entry in self._index.entries.values())
+        return self._about["count"]
 
     @property
     def bounds(self) -> "Bounds | None":
         """The bounding box of the active voxels, its least and greatest coordinates, or None if no voxel is active."""
-        boxes = [entry.bounds for entry in self._index.entries.values() if entry.bounds]
-        lows, highs = [low for low, _ in boxes], [high for _, high in boxes]
-        return (three(map(min, zip(*lows))), three(map(max, zip(*highs)))) if boxes else None
+        return self._about["bounds"]
 
     def __repr__(self) -> str:
-        return f"<Chunks {self.kind}, {len(self._index.entries):,} of side {self.side}, {self.count:,} active voxels, in {self.folder}>"
+        chunks = np.count_nonzero(self._source.sums.any(axis=0))
+        return f"<Chunks {self.kind}, {chunks:,} of side {self.side}, {self.count:,} active voxels, in {self.folder}>"
+
+    def blocks(self) -> "list[Bounds]":
+        """Returns the boxes of the blocks in which calls work, those that hold more than the background. Each is of whole chunks."""
+        return [check_bounds(box) for box in blocks_of(self._source.form, [(self._source, 0)])]
+
+    def grid(self, bounds: "Sequence[Sequence[int]]") -> Grid:
+        """Returns the voxels of a box as a grid, or of what `select` made as a mask."""
+        return grid_of(self._source, np.array(check_bounds(bounds)))
+
+    def map(self, call: "Callable[[Grid], Any]", halo: int = 0) -> "list[Any]":
+        """Returns what a call of a grid returns for each of `blocks()`, in their order. The grid has the voxels of the block, and those up to
+        `halo` voxels from it. `call` is pickled if processes work."""
+        task = dask.delayed(partial(mapped, call, self._source, halo))
+        return [*run([task(box) for box in blocks_of(self._source.form, [(self._source, 0)])])]
 
     def labels(self) -> Labels:
         """Returns the values of active voxels with their numbers and bounding boxes, as `Grid.labels` does."""
-        paths = [self._path(number) for number, entry in self._index.entries.items() if entry.active]
-        return grouped(joined([Grid(self.kind).labels(), *run([dask.delayed(labels_of)(path) for path in paths])]))
+        return grouped(joined([Grid(self.kind).labels(), *self.map(Grid.labels)]))
 
     def to_array(self, bounds: "Sequence[Sequence[int]] | None" = None, fill: "Value | None" = None) -> "tuple[Any, Any]":
-        """Returns the values and the states (bool) of a box as arrays of dask, which read files when they are computed, one block per chunk.
-        Bounds and fill are those of `Grid.to_array`."""
-        form, kind = self._index.form, KINDS[self.kind]
+        """Returns the values and the states (bool) of a box as arrays of dask, which read the store when they are computed. Bounds and fill
+        are those of `Grid.to_array`."""
+        form, kind = self._source.form, KINDS[self.kind]
         fill = None if fill is None else kind.check(fill, "fill")
         low, high = (self.bounds if bounds is None else check_bounds(bounds)) or ((0, 0, 0), (-1, -1, -1))
-        parts = [form.cuts(first, last - first + 1) for first, last in zip(low, high)]
-        paths, first = np.empty([*map(len, parts)], object), form.number(low)
-        for at in np.ndindex(*paths.shape):
-            paths[at] = self._path(three(a + b for a, b in zip(first, at)))
-        files = dask.array.from_array(paths, chunks=1)
+        parts = form.cuts(block_side(form), low, sides(np.array([low, high])))
         values, active = (
-            files.map_blocks(partial(read_block, form, low, fill, which), chunks=parts, meta=np.empty((0, 0, 0), dtype))
+            dask.array.map_blocks(partial(read_block, self._source, low, fill, which), chunks=parts, meta=np.empty((0, 0, 0), dtype))
             for which, dtype in enumerate((kind.dtype, np.dtype(np.bool_)))
         )
         return values, active
@@ -139,7 +174,7 @@ class Chunks(Voxels):
         image, own = Image.of(self.metadata), KINDS[self.kind].dtype
         if image is None:
             raise RangeError("the chunks have no image: use chunks.to_array(bounds)")
-        dtype = dtype_of(image, own)
+        dtype = image_dtype(image, own)
         if not image.bounds:
             return dask.array.empty(image.shape, dtype)
         return self.to_array(image.bounds)[0].map_blocks(partial(narrowed, dtype=dtype), dtype=dtype)
@@ -147,119 +182,202 @@ class Chunks(Voxels):
     def _mask(self, _is_chosen: object) -> Any:
         raise DtypeError("a comparison of chunks has no folder for its mask: use chunks.select(values, folder)")
 
-    def select(self, values: Array, folder: "str | os.PathLike[str]") -> "Chunks":
-        """Makes a bool volume that is active and True where this one is active and has the value, or one of some values."""
-        return self._changed(folder, partial(chosen, "select", values))
+    def select(self, values: Array, folder: Path) -> "Chunks":
+        """Makes a mask, which is active and True where this volume is active and has the value, or one of some values."""
+        return self._changed(folder, "select", values)
 
-    def relabel(self, pairs: "Mapping[Any, Any]", folder: "str | os.PathLike[str]") -> "Chunks":
+    def relabel(self, pairs: "Mapping[Any, Any]", folder: Path) -> "Chunks":
         """Makes a copy in which each active voxel whose value is a key of `pairs` has the value of that key."""
-        return self._changed(folder, partial(chosen, "relabel", dict(pairs)))
+        return self._changed(folder, "relabel", dict(pairs), values=[*dict(pairs).values()])
 
-    def dilate(self, iterations: int, folder: "str | os.PathLike[str]") -> "Chunks":
+    def dilate(self, iterations: int, folder: Path) -> "Chunks":
         """Makes a copy that activates, in each of 1 to 16 iterations, every voxel that has an active face neighbour."""
-        return self._changed(folder, partial(morphed, "dilate", (iterations,)), self, iterations, grows=True)
+        return self._changed(folder, "dilate", iterations, halo=iterations, grows=self)
 
-    def erode(self, iterations: int, folder: "str | os.PathLike[str]") -> "Chunks":
+    def erode(self, iterations: int, folder: Path) -> "Chunks":
         """Makes a copy that deactivates, in each of 1 to 16 iterations, every voxel that has an inactive face neighbour."""
-        return self._changed(folder, partial(morphed, "erode", (iterations,)), self, iterations)
+        return self._changed(folder, "erode", iterations, halo=iterations)
 
-    def dilate_label(self, value: Value, iterations: int, folder: "str | os.PathLike[str]") -> "Chunks":
+    def dilate_label(self, value: Value, iterations: int, folder: Path) -> "Chunks":
         """Makes a copy in which one label grows into inactive voxels alone, in 1 to 16 iterations."""
-        return self._changed(folder, partial(morphed, "dilate_label", (value, iterations)), self, iterations, grows=True)
+        return self._changed(folder, "dilate_label", value, iterations, halo=iterations, grows=self)
 
-    def unite(self, other: "Chunks", folder: "str | os.PathLike[str]", *, ignore_geometry: bool = False) -> "Chunks":
+    def unite(self, other: "Chunks", folder: Path, *, ignore_geometry: bool = False) -> "Chunks":
         """Makes a copy that is also active where the other volume is. Types and sides may differ."""
-        return self._combined("unite", other, folder, ignore_geometry, grows=True)
+        return self._changed(folder, "unite", other=other, grows=other, ignore_geometry=ignore_geometry)
 
-    def subtract(self, other: "Chunks", folder: "str | os.PathLike[str]", *, ignore_geometry: bool = False) -> "Chunks":
+    def subtract(self, other: "Chunks", folder: Path, *, ignore_geometry: bool = False) -> "Chunks":
         """Makes a copy that is inactive where the other volume is active. Types and sides may differ."""
-        return self._combined("subtract", other, folder, ignore_geometry)
+        return self._changed(folder, "subtract", other=other, ignore_geometry=ignore_geometry)
 
-    def intersect(self, other: "Chunks", folder: "str | os.PathLike[str]", *, ignore_geometry: bool = False) -> "Chunks":
+    def intersect(self, other: "Chunks", folder: Path, *, ignore_geometry: bool = False) -> "Chunks":
         """Makes a copy that is active only where the other volume is too. Types and sides may differ."""
-        return self._combined("intersect", other, folder, ignore_geometry)
-
-    def _path(self, number: Number) -> str:
-        return self._index.path(self.folder, number)
-
-    def _near(self, other: "Chunks", halo: int) -> "dict[Number, list[str]]":
-        """Returns the numbers of the chunks up to `halo` voxels from active voxels of another volume, each with the files that have these.
-        If the other volume is this one, the chunk's own file is left out."""
-        form, found = self._index.form, {}  # type: ignore[var-annotated]
-        for number, entry in other._index.entries.items():
-            low, high = entry.bounds or ((0, 0, 0), (-1, -1, -1))
-            first = form.number([max(at - halo, -COORDINATE_SPAN) for at in low])
-            last = form.number([min(at + halo, COORDINATE_SPAN - 1) for at in high])
-            for at in product(*(range(a, b + 1) for a, b in zip(first, last))) if entry.bounds else ():
-                if other is not self or at != number:
-                    found.setdefault(at, []).append(other._path(number))
-        return found
-
-    def _combined(
-        self, name: str, other: "Chunks", folder: "str | os.PathLike[str]", ignore_geometry: bool, grows: bool = False
-    ) -> "Chunks":
-        """Writes this volume to a folder, changed by the active voxels of another one. Raises GeometryError if both have images, which differ."""
-        metadata = self.metadata if ignore_geometry else agreed(self.metadata, other.metadata, KINDS[self.kind].dtype)
-        return self._changed(folder, partial(combined, name), other, grows=grows, metadata=metadata)
+        return self._changed(folder, "intersect", other=other, ignore_geometry=ignore_geometry)
 
     def _changed(
-        self, folder: "str | os.PathLike[str]", change: Change, other: "Chunks | None" = None, halo: int = 0, grows: bool = False,
-        metadata: "Metadata | None" = None,
+        self, folder: Path, name: str, *arguments: Any, other: "Chunks | None" = None, halo: int = 0, grows: "Chunks | None" = None,
+        values: Sequence[Value] = (), ignore_geometry: bool = False,
     ) -> "Chunks":  # fmt: skip
-        """Writes the chunks of this volume to a folder, changed. A change sees the active voxels of another volume, or of this one, in
-        the chunk and up to `halo` voxels from it. With `grows` it may activate voxels of chunks that have no file."""
-        sample = change(Grid(self.kind, self.background, metadata=self.metadata), ())  # raises the error of a wrong argument
-        near = {} if other is None else self._near(other, halo)
-        numbers = sorted({*self._index.entries, *near} if grows else self._index.entries)
-        task = dask.delayed(partial(change_chunk, self._index.form, change, halo))
+        """Writes this volume to a folder, changed by a call of its grids, perhaps with another volume. The call depends on voxels up to `halo`
+        voxels away, may activate some as far from the active ones of the volume `grows`, and may write the `values`."""
+        source, form = self._source, self._source.form
+        new = Mask(metadata=self.metadata) if form.is_mask else Grid(self.kind, self.background, metadata=self.metadata)
+        made = called(name, arguments, new, Grid("bool") if other else None)  # raises the error of a wrong argument
+        metadata = made.metadata if other is None or ignore_geometry else agreed(made.metadata, other.metadata, made.dtype)
+        box = form.box if min(form.shape) else None
+        if grows and grows.bounds:
+            box = around([box, grown(grows.bounds, halo)])
+        low, shape = (form.low, form.shape) if box is None else (box[0], sides(box))
+        dtype = dtype_of(made.kind, form.dtype, values)
+        form = Form(made.kind, made.background, isinstance(made, Mask), dtype, low, shape, min(self.side, 512)).check()
+        boxes = blocks_of(form, [(source, halo if grows else 0), *([(grows._source, halo)] if grows else [])])
 
-        def compute(place: str) -> "Iterable[tuple[Number, Entry | None]]":
-            return zip(numbers, run([task(it, self._path(it), near.get(it, []), path_of(place, it)) for it in numbers]))
+        def compute(target: Volume) -> "Sequence[Entry | None]":
+            task = dask.delayed(partial(change_block, source, other and other._source, name, arguments, halo, target))
+            return run([task(it) for it in boxes])
 
-        form = Form(sample.kind, sample.background, self.side)
-        return written(folder, form, sample.metadata if metadata is None else metadata, compute)
+        return written(folder, form, metadata, self.names if made.kind == self.kind else {}, compute)
+
+
+open = Chunks
 
 
 def from_array(
-    values: Any, folder: "str | os.PathLike[str]", side: int = 256, origin: Sequence[int] = (0, 0, 0), background: "Value | None" = None,
-    metadata: "Mapping[str, str] | None" = None,
+    values: Any, folder: Path, side: int = 128, origin: Sequence[int] = (0, 0, 0), background: "Value | None" = None,
+    metadata: "Mapping[str, str] | None" = None, names: "Names | None" = None,
 ) -> Chunks:  # fmt: skip
-    """Writes a label volume to a folder as chunks and returns it. Voxels other than the background are active.
+    """Writes a label volume to a folder and returns it. Voxels other than the background are active.
 
     `values` is an array of dask, zarr or NumPy with the axes x, y, z, or the path of a zarr store, which may be an image of OME-Zarr: then
-    its axes are named, and its level 0 is taken. Its dtype is one that `Grid.from_array` takes. `origin` is the coordinate of
-    `values[0, 0, 0]`. `side` is a multiple of 8 voxels; up to 256 of them no scene file is too long. `metadata` are pairs; those of the
-    image of a store replace theirs.
+    its axes are named, and its level 0 is taken. Its dtype is one that `Grid.from_array` takes, and the store keeps it. `origin` is the
+    coordinate of `values[0, 0, 0]`. `side` is a multiple of 8 up to 512 voxels, that of a chunk. `metadata` are pairs; those of the image
+    of a store replace theirs. `names` are those of labels, else those in the store.
 
-    Errors are those of `Grid.from_array`. For a store they are FileError, and VolumeError if it has no such array.
+    Errors are those of `Grid.from_array`. For a store they are FileError, and VolumeError if it has no such array, or if something else of
+    zarr is in the folder.
 
     Examples
     --------
-    >>> labels = chunks.from_array(np.arange(3000).reshape(10, 10, 30), "labels", side=16)
+    >>> labels = chunks.from_array(np.arange(3000).reshape(10, 10, 30), "labels.zarr", side=16)
     >>> labels.count, labels.bounds
     (2999, ((0, 0, 0), (9, 9, 29)))
     """
     pairs = Metadata(metadata)
     if isinstance(values, (str, os.PathLike)):
-        values, affine, notes = opened(os.fspath(values))
+        found = opened(path_of(values))
+        if found.has_states:
+            warnings.warn(f"{values}: the states of the volume aren't taken: chunks.convert copies them", VdbWarning, stacklevel=2)
+        values = found.turned(dask.array.from_zarr(found.array))
         low = check_box(origin, values.shape)
-        Image(low, values.shape, values.dtype, moved(affine, [-at for at in low]), notes).keep(pairs)
+        Image(low, values.shape, values.dtype, moved(found.affine, [-at for at in low]), found.notes).keep(pairs)
+        names = label_names.of_image_label(found.label) if names is None else names
     kind = kind_of_array(np.empty(0, values.dtype)).word
-    form, low = Form(kind, Grid(kind, background).background, side).check(), check_box(origin, values.shape)
+    filled = Grid(kind, background).background
+    form = Form(kind, filled, False, dtype_of(kind, values.dtype, [filled]), check_box(origin, values.shape), values.shape, side).check()
 
-    def compute(place: str) -> "Iterable[tuple[Number, Entry | None]]":
-        cuts = tuple(map(form.cuts, low, values.shape))
+    def compute(target: Volume) -> "Sequence[Entry | None]":
+        cuts = form.cuts(block_side(form), form.low, form.shape)
         blocks = values.rechunk(cuts) if isinstance(values, dask.array.Array) else dask.array.from_array(values, cuts, name=False)
         ones = [(1,) * len(it) for it in cuts]
-        return run([blocks.map_blocks(partial(write_block, form, low, place), chunks=ones, meta=np.empty((0, 0, 0), object))])[0].flat
+        return run([blocks.map_blocks(partial(write_block, target), chunks=ones, meta=np.empty((0, 0, 0), object))])[0].flat
 
-    return written(folder, form, pairs, compute)
+    return written(folder, form, pairs, names or {}, compute)
 
 
-def written(folder: "str | os.PathLike[str]", form: Form, metadata: Metadata, compute: Compute) -> Chunks:
+def convert(old: Path, folder: Path) -> Chunks:
+    """Copies a volume, such as a folder of scene files that version 1.1 wrote, to another folder, and returns it.
+
+    Examples
+    --------
+    >>> labels = chunks.from_array(np.ones((4, 4, 4), np.uint8), "labels.zarr")
+    >>> chunks.convert("labels.zarr", "copy.zarr").bounds
+    ((0, 0, 0), (3, 3, 3))
+    """
+    return Chunks(old)._changed(folder, "copy")
+
+
+def written(folder: Path, form: Form, metadata: Metadata, names: Names, compute: Compute) -> Chunks:
     """Writes a volume to a folder and returns it."""
-    write_volume(os.path.abspath(os.fspath(folder)), form, metadata, compute)
+    write_volume(path_of(folder), form, metadata, label_names.image_label(names), compute)
     return Chunks(folder)
+
+
+def block_side(form: Form) -> int:
+    """Returns how many voxels a block has along each axis."""
+    return form.side * max(1, BLOCK // form.side)
+
+
+def blocks_of(form: Form, sources: "Sequence[tuple[Source, int]]") -> "list[Box]":
+    """Returns the boxes of the blocks of a form that chunks of some volumes meet, or the voxels up to a halo from them."""
+    side = block_side(form)
+    found = np.zeros(-(-np.array(form.shape) // side), np.bool_)
+    for source, halo in sources:
+        for box in source.form.present(source.sums):
+            found[form.cubes(grown(box, halo), side)] = True
+    low = np.argwhere(found) * side + form.low
+    return [grown((at, np.minimum(at + side - 1, form.box[1])), 0) for at in low]
+
+
+def arrays_of(source: Source, box: Box) -> "tuple[np.ndarray, np.ndarray]":
+    """Returns the values and the states of a box."""
+    values, active = source.read(box)
+    return values, values != source.form.background if active is None else active
+
+
+def grid_of(source: Source, box: Box) -> Grid:
+    """Returns the voxels of a box as a grid or a mask."""
+    values, active = source.read(box)
+    if source.form.is_mask:
+        return Mask.from_array(values, origin=box[0])
+    return Grid.from_array(values, active, box[0], source.form.background)
+
+
+def mapped(call: "Callable[[Grid], Any]", source: Source, halo: int, box: Box) -> Any:
+    """Returns what a call returns for the voxels of a box and around it."""
+    return call(grid_of(source, grown(box, halo)))
+
+
+def box_of(low: Coordinate, places: Any) -> Box:
+    """Returns the box of a block of an array of dask whose first voxel lies at `low`."""
+    first, past = np.transpose(places) + low
+    return np.array([first, past - 1])
+
+
+def write_block(target: Volume, block: np.ndarray, block_info: Any = None) -> np.ndarray:
+    """Writes a block of an array to a volume that begins with it. Returns an array of one entry."""
+    made = np.full((1, 1, 1), None, object)
+    if block.size:
+        made[0, 0, 0] = target.write(box_of(target.form.low, block_info[0]["array-location"]), block)
+    return made
+
+
+def read_block(source: Source, low: Coordinate, fill: "Value | None", which: int, block_info: Any = None) -> np.ndarray:
+    """Returns the values (`which` is 0) or the states (1) of a block of an array whose first voxel lies at `low`."""
+    values, active = arrays_of(source, box_of(low, block_info[None]["array-location"]))
+    return active if which else (values if fill is None else np.where(active, values, fill)).astype(KINDS[source.form.kind].dtype)
+
+
+def change_block(
+    source: Source, other: "Source | None", name: str, arguments: tuple, halo: int, target: Volume, box: Box
+) -> "Entry | None":
+    """Writes a block of a volume to another one, changed."""
+    near = grown(box, halo)
+    if name in OF_STATES:  # then no value goes into a grid
+        values, active = arrays_of(source, near)
+        second = Grid.from_array(arrays_of(other, box)[1], origin=box[0]) if other else None
+        states = called(name, arguments, Grid.from_array(active, origin=near[0]), second).active[slices(box, (0, 0, 0))]
+        return target.write(box, states if source.form.is_mask else values[slices(box, near[0])], states)
+    made = called(name, arguments, grid_of(source, near), None)
+    if target.form.is_mask:
+        return target.write(box, made[slices(box, (0, 0, 0))])
+    shape, dtype = sides(box)[::-1], np.dtype(bool if made.kind == "bool" else target.form.dtype)  # the store has the axes z, y, x
+    return target.write(box, *made.to_array(box, out=(np.empty(shape, dtype).T, np.empty(shape, np.bool_).T)))
+
+
+def called(name: str, arguments: tuple, grid: Grid, other: "Grid | None") -> Grid:
+    """Returns what a call of a grid returns, or the grid if that is changed by it, with another one as the last argument if it is given."""
+    made = getattr(grid, name)(*arguments, *([] if other is None else [other]))
+    return grid if made is None else made
 
 
 def run(collections: "Sequence[Any]") -> "Sequence[Any]":

@@ -2,17 +2,18 @@
 """Scenes of the library: their bytes, and grids lent to them and moved out of them."""
 from __future__ import annotations
 
+import zlib
 from concurrent.futures import ThreadPoolExecutor
 from contextlib import ExitStack, contextmanager
-from ctypes import byref, c_uint64, create_string_buffer
-from typing import Callable, Iterator, Mapping, Tuple, TypeVar
+from ctypes import byref, c_int32, c_int64, c_uint64, create_string_buffer
+from typing import Callable, Iterator, Mapping, Sequence, Tuple, TypeVar
 
 import numpy as np
 
-from .arrays import new_grid
+from .arrays import box_of, new_grid
 from .errors import RangeError, SceneTooLongError, TooLongFault
-from .forms import COORDINATE_SPAN, KINDS, MAX_FILE, MAX_NAME, MAX_TEXT
-from .library import BUFFER, Held, SceneHandle
+from .forms import COORDINATE_SPAN, KIND_NUMBERS, KINDS, MAX_FILE, MAX_NAME, MAX_TEXT, Kind
+from .library import BUFFER, Box, Held, SceneHandle
 
 NAME = b"a"
 Lender = Tuple[Held, Mapping[str, str]]  # a grid and its metadata
@@ -117,3 +118,60 @@ def copied(grid: Held) -> Held:
     copy = Held()
     grid.call_with("copy", copy)
     return copy
+
+
+def halves(box: "Sequence[Sequence[int]]", inner: "Sequence[Sequence[int]] | None" = None) -> "list[Sequence[Sequence[int]]]":
+    """Returns the parts of a box on both sides of its middle, or of the middle of a box in it, across the longest axis of that."""
+    low, high = inner or box
+    axis = max(range(3), key=lambda axis: high[axis] - low[axis])
+    middle = (low[axis] + high[axis]) // 2
+    low, high = box
+    return [(low, (*high[:axis], middle, *high[axis + 1 :])), ((*low[:axis], middle + 1, *low[axis + 1 :]), high)]
+
+
+def clipped(grid: Held, box: "Sequence[Sequence[int]]") -> Held:
+    """Returns a copy of the part of a grid in a box."""
+    copy = copied(grid)
+    copy.call("clip", box_of(*box))
+    return copy
+
+
+def packed(grid: Held, pairs: "Mapping[str, str]", box: "Sequence[Sequence[int]]" = EVERYWHERE) -> "list[bytes]":
+    """Returns a grid as scene files compressed by zlib: one, or if it is too long for a file those of its parts, which `unpacked` joins. It
+    has nothing outside the box.
+
+    The first has the metadata and the background, and those of integers after it have the background 0. Raises SumRangeError if a value
+    less the background is outside the type.
+    """
+    with grid.lock:
+        with lent({NAME: (grid, pairs)}) as scene:
+            if scene.length() <= MAX_FILE:
+                return [zlib.compress(scene.encoding().data, 1)]
+        bounds, found = Box(), c_int32()
+        grid.call("bounds", byref(bounds), byref(found))
+        low, high = ((at.x, at.y, at.z) for at in (bounds.min, bounds.max))
+        first, second = halves(box, (low, high) if found.value and low != high else box)
+        one, other = clipped(grid, first), clipped(grid, second)
+    kind, background = form_of(grid)
+    if kind.number and background:
+        other.call_with("sum", new_grid(kind, -background, 1))
+    return [*packed(one, pairs, first), *packed(other, {}, second)]
+
+
+def unpacked(parts: "Sequence[bytes]") -> "tuple[Held, dict[str, str]]":
+    """Returns the grid of parts and its metadata."""
+    scenes = (Encoded(zlib.decompress(data)) for data in parts)
+    first = next(scenes)
+    pairs, grid = first.metadata(NAME), first.take(NAME)
+    kind, background = form_of(grid)
+    for scene in scenes:
+        grid.call_with("sum" if kind.number else "minimum" if background else "maximum", scene.take(NAME))
+    return grid, pairs
+
+
+def form_of(grid: Held) -> "tuple[Kind, int]":
+    """Returns the type of values of a grid, and its background."""
+    number, background = c_int32(), c_int64()
+    grid.call("kind", byref(number))
+    grid.call("background", byref(background))
+    return KIND_NUMBERS[number.value], background.value

@@ -4,13 +4,20 @@ from __future__ import annotations
 
 import contextlib
 import errno
+import gzip
 import hashlib
+import io
 import os
 import secrets
 import stat
-from typing import Any, BinaryIO, Iterator
+import zlib
+from types import SimpleNamespace
+from typing import Any, BinaryIO, Callable, Iterator
 
 from .errors import DigestError, FormatError, file_error
+
+#: The level of compression of scene files, as of pickles: the others take much longer.
+LEVEL = 1
 
 
 @contextlib.contextmanager
@@ -64,6 +71,39 @@ def replacing(path: "str | os.PathLike[str]") -> Iterator[BinaryIO]:
             raise
 
 
+@contextlib.contextmanager
+def replacing_scene(path: "str | os.PathLike[str]", digest: bool) -> "Iterator[Callable[[Any], object]]":
+    """Yields the call that writes bytes to a scene file, which replaces one at the end: to gzip if the name ends in .gz. With `digest` the
+    SHA-256 of the file is written to PATH.sha256, as sha256sum does. Raises FileError if that can't be written."""
+    name, sha256 = os.fspath(path), hashlib.sha256()
+    with replacing(path) as file:
+
+        def write(data: Any) -> int:
+            sha256.update(data)
+            return file.write(data)
+
+        if name.endswith(".gz"):
+            below: Any = SimpleNamespace(write=write, flush=file.flush)
+            with gzip.GzipFile("", "wb", LEVEL, below, mtime=0) as zipped:
+                yield zipped.write
+        else:
+            yield write
+    if digest:
+        with replacing(f"{name}.sha256") as file:
+            file.write(f"{sha256.hexdigest()}  {os.path.basename(name)}\n".encode("utf-8", "surrogateescape"))
+
+
+def unzipped(path: "str | os.PathLike[str]", data: Any, most: int) -> Any:
+    """Returns the bytes of a file: if its name ends in .gz those that gzip unpacks, up to a number of bytes. Raises FileError if it can't."""
+    if not os.fspath(path).endswith(".gz"):
+        return data
+    with naming(path):
+        try:
+            return bytearray(gzip.GzipFile(fileobj=io.BytesIO(data)).read(most))
+        except (EOFError, OSError, zlib.error) as error:
+            raise OSError(errno.EIO, f"no whole file of gzip: {error}") from error
+
+
 def synchronise(folder: str) -> None:
     """Puts the names of a folder on the disk, where its file system can."""
     with contextlib.suppress(OSError):
@@ -72,13 +112,6 @@ def synchronise(folder: str) -> None:
             os.fsync(descriptor)
         finally:
             os.close(descriptor)
-
-
-def write_digest(path: "str | os.PathLike[str]", sha256: Any) -> None:
-    """Writes the digest of a file to PATH.sha256, as sha256sum does. Raises FileError if that can't be written."""
-    name = os.fspath(path)
-    with replacing(f"{name}.sha256") as file:
-        file.write(f"{sha256.hexdigest()}  {os.path.basename(name)}\n".encode("utf-8", "surrogateescape"))
 
 
 def check_digest(path: "str | os.PathLike[str]", data: Any) -> None:

@@ -11,7 +11,7 @@ from . import images
 from .arrays import box_of, coordinates_of, from_dense, new_grid, write_box, write_voxels
 from .blocks import Cubes
 from .edits import mapped, write_cubes, write_leaves
-from .encoded import NAME, Encoded, copied, encoding_of
+from .encoded import apart, copied, packed, unpacked
 from .engine import NO_ACCESSOR, Census, Stored, box
 from .errors import DtypeError, RangeError
 from .forms import (
@@ -101,8 +101,9 @@ class Grid(Stored):
             self._held.handle, held.handle = held.handle, self._held.handle
 
     def __reduce__(self) -> tuple:
-        """Pickles the grid as a scene file. Raises SceneTooLongError above 268,435,456 bytes."""
-        return _unpickled, (encoding_of({NAME: (self._held, self._metadata)}).tobytes(), type(self))
+        """Pickles the grid as compressed scene files: one, or those of its parts if it is too long for one. Raises SumRangeError if then a
+        value less the background is outside the type."""
+        return _unpickled, (apart(lambda: packed(self._held, self._metadata)), type(self))
 
     def __eq__(self, other: object) -> Any:
         """Returns whether the other grid has the same type, background and cells. Limits and metadata may differ. `grid == 3` is the mask
@@ -391,11 +392,9 @@ class GridActive(Active):
             (grid.unite if states else grid.subtract)(mask)
 
 
-def _unpickled(data: bytes, form: "Type[Grid]" = Grid) -> Grid:
+def _unpickled(parts: "Sequence[bytes]", form: "Type[Grid]") -> Grid:
     """Returns the grid that `Grid.__reduce__` encoded."""
-    scene = Encoded(data)
-    pairs = scene.metadata(NAME)
-    return form._of(scene.take(NAME), pairs)
+    return form._of(*unpacked(parts))
 
 
 def spread(values: np.ndarray, shape: "tuple[int, ...]") -> np.ndarray:

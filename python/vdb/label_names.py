@@ -16,17 +16,18 @@ import io
 import os
 import re
 import warnings
-from typing import Dict, Mapping, NamedTuple, Optional, Tuple
+from typing import Any, Dict, Mapping, NamedTuple, Optional, Tuple
 
 import numpy as np
 
+from . import zarr_stores
 from .errors import MissingFileError, VdbWarning, VolumeError
 from .files import naming, replacing
 from .formats import nrrd
 
 #: The most bytes of a table.
 MOST_BYTES = 2**24
-ENDINGS = re.compile(r"(\.seg)?\.(vdbs|nii|nii\.gz|nrrd|nhdr|tiff?|vti|npy)$", re.IGNORECASE)
+ENDINGS = re.compile(r"(\.seg)?\.(vdbs|vdbs\.gz|nii|nii\.gz|nrrd|nhdr|tiff?|vti|npy)$", re.IGNORECASE)
 SNAP = re.compile(r'\s*(-?\d+)' + r"\s+(\d+)" * 3 + r'\s+\S+\s+\S+\s+\S+\s+"(.*)"\s*$')
 SEGMENT = re.compile(r"(Segment\d+)_LabelValue$")
 
@@ -50,6 +51,8 @@ def of(path: "str | os.PathLike[str]", grid: str = "") -> Names:
     """Returns the names of the labels of an image file, or of a grid of a scene file: those of its header, else of the table beside it.
     Without either it returns none. Raises VolumeError if a row of the table has another form, and FileError if it can't be read."""
     name = os.fspath(path)
+    if zarr_stores.is_store(name):
+        return of_image_label(zarr_stores.attributes_of(name).get("image-label", {}))
     for place in [name] * name.lower().endswith((".nrrd", ".nhdr")) + [table_of(name, grid), table_of(name)]:
         try:
             names = read(place)
@@ -135,6 +138,26 @@ def of_segments(fields: "Mapping[str, str]") -> Names:
     return names
 
 
+def of_image_label(label: "Mapping[str, Any]") -> Names:
+    """Returns the names and colours that the attribute image-label of OME-Zarr has. Raises VolumeError if it has another form."""
+    try:
+        colours = {int(it["label-value"]): it["rgba"] for it in label.get("colors", ()) if "rgba" in it}
+        texts = {int(it["label-value"]): str(it.get("name", "")) for it in label.get("properties", ())}
+        parts = {value: (int(red), int(green), int(blue)) for value, (red, green, blue, *_) in colours.items()}
+    except (AttributeError, KeyError, TypeError, ValueError) as error:
+        raise VolumeError(f"the attribute image-label has another form: {type(error).__name__}: {error}") from error
+    return {value: Label(texts.get(value, ""), parts.get(value)) for value in sorted({*texts, *parts})}
+
+
+def image_label(names: Names) -> "Dict[str, Any]":
+    """Returns names and colours as the attribute image-label of OME-Zarr."""
+    colours = [{"label-value": value, "rgba": [*label.colour, 255]} for value, label in names.items() if label.colour]
+    return {
+        **({"colors": colours} if colours else {}),
+        **({"properties": [{"label-value": value, "name": label.name} for value, label in names.items()]} if names else {}),
+    }
+
+
 def write(path: "str | os.PathLike[str]", names: Names) -> None:
     """Writes a table of BIDS. An existing file is replaced. Raises FileError if it can't be written.
 
@@ -156,7 +179,9 @@ def write(path: "str | os.PathLike[str]", names: Names) -> None:
 
 
 def keep(path: "str | os.PathLike[str]", names: Names, grid: str = "") -> None:
-    """Writes names to the table beside a file. If that isn't a table of names, it stays, which is a VdbWarning."""
+    """Writes names to the table beside a file, or to a store of zarr. If the table isn't one of names, it stays, which is a VdbWarning."""
+    if zarr_stores.is_store(path):
+        return zarr_stores.keep_label(os.fspath(path), image_label(names))
     table = table_of(path, grid)
     try:
         read(table)

@@ -2,13 +2,12 @@
 """A scene of the engine, which is the content of a file: grids by name."""
 from __future__ import annotations
 
-import hashlib
 import os
 
 import numpy as np
 
 from .encoded import Encoded, apart, encoding_of
-from .files import check_digest, naming, replacing, write_digest
+from .files import check_digest, naming, replacing_scene, unzipped
 from .forms import MAX_FILE, Progress
 from .grid import Grid
 from .grids import Grids
@@ -29,20 +28,19 @@ class Scene(Grids[Grid]):
         return self._encoding().tobytes()
 
     def save(self, path: "str | os.PathLike[str]", progress: "Progress | None" = None, *, digest: bool = False) -> None:
-        """Writes the encoding of the scene to a file.
+        """Writes the encoding of the scene to a file, compressed by gzip if its name ends in .gz.
 
         The bytes go to a temporary file in the same folder, which then takes the place of `path`. `progress` is called with the number of
-        bytes written so far and that of all. With `digest` their SHA-256 is written to PATH.sha256, in the form of sha256sum. Raises SceneTooLongError if there are more than 268,435,456, and FileError if the file
-        can't be written; an existing file stays as it was then.
+        bytes encoded so far and that of all. With `digest` the SHA-256 of the file is written to PATH.sha256, in the form of sha256sum. Raises
+        SceneTooLongError if the encoding has more than 268,435,456 bytes, and FileError if the file can't be written; an existing file stays
+        as it was then.
         """
         encoding = self._encoding()
-        with replacing(path) as file:
+        with replacing_scene(path, digest) as write:
             for first in range(0, len(encoding), PIECE):
-                done = file.write(encoding.data[first : first + PIECE])
+                write(encoding.data[first : first + PIECE])
                 if progress:
-                    progress(first + done, len(encoding))
-        if digest:
-            write_digest(path, hashlib.sha256(encoding.data))
+                    progress(min(first + PIECE, len(encoding)), len(encoding))
 
     def _encoding(self) -> np.ndarray:
         """Returns the bytes of the encoding (uint8)."""
@@ -50,7 +48,7 @@ class Scene(Grids[Grid]):
 
 
 def load(path: "str | os.PathLike[str]", progress: "Progress | None" = None, *, digest: bool = False) -> Scene:
-    """Reads a scene file of version 1 or 2. With `digest` its bytes are compared with PATH.sha256.
+    """Reads a scene file of version 1 or 2, compressed if its name ends in .gz. With `digest` its bytes are compared with PATH.sha256.
 
     `progress` is called with the number of bytes read so far and the size of the file. The engine then decodes all of them in one call.
 
@@ -72,6 +70,7 @@ def load(path: "str | os.PathLike[str]", progress: "Progress | None" = None, *, 
                 progress(len(data), size)
     if digest:
         check_digest(path, data)
+    data = unzipped(path, data, MAX_FILE + 1)
     with naming(path):
         return loads(data)
 

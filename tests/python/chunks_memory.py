@@ -36,7 +36,7 @@ def main():
         def timed(call, *arguments):
             begun = time.monotonic()
             made = getattr(*call)(*arguments)
-            print(f"{call[1]}: {time.monotonic() - begun:.1f} s, {made.count:,} voxels, {len(list(Path(made.folder).glob('*/*')))} files")
+            print(f"{call[1]}: {time.monotonic() - begun:.1f} s, {made.count:,} voxels, {len(list(Path(made.folder).glob('*/*/*/*/*')))} chunks")
             return made
 
         labels = timed((chunks, "from_array"), array, f"{folder}/labels")

@@ -1,6 +1,7 @@
 # SPDX-License-Identifier: Apache-2.0
 """Volumes in chunks, on threads and on processes of dask, against one grid."""
 import contextlib
+import errno
 import io
 import json
 import logging
@@ -52,22 +53,30 @@ def labels_of(seed, shape, density, dtype=np.int32):
     return values
 
 
+def stored(folder, name="0"):
+    """An array of a volume, with the axes x, y, z, as zarr reads it by the attributes of OME-Zarr, and the coordinate of its first voxel."""
+    group = zarr.open_group(str(folder), "r")
+    level = group.attrs["multiscales"][0]["datasets"][0]["path"]
+    return group[f"{level[:-1]}{name}"][...].T, group.attrs["vdb"]["low"]
+
+
 class Case(unittest.TestCase):
-    """A folder, in which files are not put on the disk, and comparisons with one grid."""
+    """A folder, in which files are not put on the disk, and comparisons with one grid. A block is a chunk."""
 
     def setUp(self):
         holder = tempfile.TemporaryDirectory()
         self.addCleanup(holder.cleanup)
         self.folder = Path(holder.name)
-        quick = mock.patch("os.fsync")
-        quick.start()
-        self.addCleanup(quick.stop)
+        for patch in (mock.patch("os.fsync"), mock.patch("vdb.chunks.BLOCK", 8)):
+            patch.start()
+            self.addCleanup(patch.stop)
 
     def written(self, values, name="a", **more):
         return chunks.from_array(values, self.folder / name, **more)
 
     def same(self, volume, grid, halo=2):
-        """The volume has the cells of the grid, in the box of both and around it, and its folder the files that the index names."""
+        """The volume has the cells of the grid, in the box of both and around it. So has the array that zarr reads, and its store has no other
+    chunk, and no other file."""
         self.assertEqual((volume.kind, volume.background), (grid.kind, grid.background))
         self.assertEqual((volume.count, volume.bounds), (grid.count, grid.bounds))
         self.assertEqual(rows(volume.labels()), rows(grid.labels()))
@@ -78,10 +87,19 @@ class Case(unittest.TestCase):
         for one, other in zip(found, grid.to_array(box)):
             self.assertEqual((one.dtype, one.shape), (other.dtype, other.shape))
             np.testing.assert_array_equal(one, other)
-        index = json.loads(Path(volume.folder, "chunks.json").read_text())
-        names = ["{}_{}_{}.vdbs".format(*number) for number, _, _ in index["chunks"]]
-        self.assertEqual(sorted(os.listdir(volume.folder)), sorted([index["folder"], "chunks.json"]))
-        self.assertEqual(sorted(os.listdir(Path(volume.folder, index["folder"]))), sorted(names))
+        values, low = stored(volume.folder)
+        if values.size:
+            box = low, [at + length - 1 for at, length in zip(low, values.shape)]
+            box = [[max(LEAST, min(MOST, at)) for at in corner] for corner in box]
+            inner, active = grid.to_array(box)
+            np.testing.assert_array_equal(values, inner)
+            np.testing.assert_array_equal(stored(volume.folder, "toggled")[0], active ^ (inner != grid.background))
+        written = json.loads(Path(volume.folder, ".zattrs").read_text())["vdb"]["written"]
+        self.assertEqual(sorted(os.listdir(volume.folder)), sorted([written, ".zattrs", ".zgroup"]))
+        for name, empty in (("0", grid.background), ("toggled", 0)):
+            found = [tuple(map(int, it.parts[-3:])) for it in Path(volume.folder, written, name).glob("*/*/*") if it.name != ".zarray"]
+            full, side = np.argwhere(stored(volume.folder, name)[0].T != empty), volume.side
+            self.assertEqual(sorted(found), sorted({*map(tuple, (full // side).tolist())}))
 
 
 class Threads(Case):
@@ -192,17 +210,6 @@ class Images(Case):
             self.assertFalse(place.exists())
         self.assertEqual(volume.unite(other, place, ignore_geometry=True).metadata["affine_x"], "0.5,0,0,1")
 
-    def test_an_index_without_metadata(self):
-        self.volume("a")
-        path = self.folder / "a" / "chunks.json"
-        index = json.loads(path.read_bytes())
-        del index["metadata"]
-        path.write_text(json.dumps(index))
-        self.assertEqual(dict(chunks.Chunks(self.folder / "a").metadata), {})
-        path.write_text(json.dumps({**index, "metadata": {"A": "x"}}))
-        with self.assertRaises(chunks.ChunksFault):
-            chunks.Chunks(self.folder / "a")
-
     def ome(self, values, axes, **more):
         """An image of OME-Zarr 0.4, with two levels. Returns its path."""
         group = zarr.open_group(str(self.folder / "ome.zarr"), "w")
@@ -223,6 +230,41 @@ class Images(Case):
             "image_units": "um",
         })  # fmt: skip
         self.same(self.written(self.ome(values[None, :, None], list("tzcyx"))), vdb.Grid.from_array(values.T))
+
+    def test_a_label_image_is_one_of_ome_zarr(self):
+        """The layout that ngff.openmicroscopy.org publishes for 0.4: what it says a label image MUST have, and the SHOULD of its axes."""
+        names = {1: vdb.label_names.Label("liver", (255, 136, 0)), 3: vdb.label_names.Label("left kidney")}
+        values, affine = labels_of(1, (30, 20, 10), 0.1, np.uint16), {"affine_x": "0.5,0,0,1", "affine_y": "0,2,0,0", "affine_z": "0,0,1,-3"}
+        pairs = {**affine, "image_array": "uint16,30,20,10", "image_units": "mm"}
+        volume = self.written(values, side=16, origin=(4, 0, -1), metadata=pairs, names=names).dilate(1, self.folder / "b")
+        group = zarr.open_group(str(self.folder / "b"), "r")
+        (image,) = group.attrs["multiscales"]
+        self.assertEqual(image["version"], "0.4")
+        self.assertEqual(image["axes"], [{"name": name, "type": "space", "unit": "millimeter"} for name in "zyx"])
+        (level,) = image["datasets"]
+        scale, translation = level["coordinateTransformations"]
+        self.assertEqual(scale, {"type": "scale", "scale": [1, 2, 0.5]})
+        low, high = volume.bounds
+        at = [0.5 * low[0] + 1, 2 * low[1], low[2] - 3]  # the grown volume begins at its first active voxel
+        self.assertEqual(translation, {"type": "translation", "translation": at[::-1]})
+        array = group[level["path"]]
+        self.assertEqual((array.dtype, array.ndim), (np.uint16, 3))  # "The pixels of the label images MUST be integer data types"
+        self.assertEqual(array.shape, tuple(b - a + 1 for a, b in zip(low, high))[::-1])
+        settings = json.loads(Path(volume.folder, array.path, ".zarray").read_text())
+        self.assertEqual((settings["zarr_format"], settings["dimension_separator"], settings["filters"], settings["order"]), (2, "/", None, "C"))
+        self.assertEqual((settings["compressor"]["id"], settings["compressor"]["cname"]), ("blosc", "zstd"))
+        label = group.attrs["image-label"]
+        self.assertEqual((label["version"], label["colors"]), ("0.4", [{"label-value": 1, "rgba": [255, 136, 0, 255]}]))
+        self.assertEqual(label["properties"], [{"label-value": 1, "name": "liver"}, {"label-value": 3, "name": "left kidney"}])
+        self.assertEqual(volume.names, names)
+        with self.assertWarnsRegex(vdb.VdbWarning, "b: the states of the volume aren't taken"):
+            self.assertEqual(self.written(volume.folder, "c").names, names)
+        self.assertEqual(volume.select(1, self.folder / "c").names, {})
+        self.assertEqual(zarr.open_group(str(self.folder / "c"), "r")[f"{chunks.open(self.folder / 'c')._source.written}/0"].dtype, np.uint8)
+        turned = self.written(values, "d", metadata={"affine_x": "0,-2,0,5", "affine_y": "3,0,0,6", "affine_z": "0,0,1,7"})
+        found = zarr.open_group(turned.folder, "r").attrs["multiscales"][0]["datasets"][0]["coordinateTransformations"]
+        self.assertEqual(found, [{"type": "scale", "scale": [1, 2, 3]}, {"type": "translation", "translation": [0, 0, 0]}])
+        self.assertEqual(dict(turned.dilate(1, self.folder / "d").metadata)["affine_x"], "0,-2,0,5")
 
     def test_stores_that_are_no_image(self):
         with self.assertRaisesRegex(vdb.MissingFileError, "none.zarr: No such file"):
@@ -258,29 +300,102 @@ class Folders(Case):
         ):  # fmt: skip
             with self.subTest(more=more), self.assertRaises(error):
                 self.written(values, "b", **more)
+        far = self.written(np.ones((1, 1, 1), np.int32), "c", side=8, origin=(MOST, 0, 30000))
+        with self.assertRaisesRegex(vdb.RangeError, "at most 134,217,728 chunks, not 3751 x 3 x 268435456: choose a larger side"):
+            self.volume.unite(far, self.folder / "b")
         self.assertFalse((self.folder / "b").exists())
         self.same(self.volume, self.grid)
 
+    def chunk(self, volume, name="0"):
+        """The file of a chunk in the middle."""
+        return next(Path(volume.folder).glob(f"*/{name}/1/1/1"))
+
     def test_after_an_error_the_old_volume_stays(self):
         broken = self.written(self.values, "b", side=8)
-        path = next(Path(broken.folder).glob("*/1_1_1.vdbs"))
+        path = self.chunk(broken)
         path.write_bytes(path.read_bytes()[:-1])
         for target in ("a", "b", "c"):
-            with self.assertRaises(vdb.TruncatedFault):
+            with self.assertRaisesRegex(chunks.ChunksFault, f"{path}: chunks: the chunk has other bytes"):
                 broken.dilate(1, self.folder / target)
+        for _ in range(200):  # until blocks end that other threads worked on
+            left = [len(os.listdir(self.folder / name)) for name in "abc"]
+            if left == [3, 3, 0]:
+                break
+            time.sleep(0.1)
+        self.assertEqual(left, [3, 3, 0])
         self.same(self.volume, self.grid)
-        self.assertEqual(len(os.listdir(broken.folder)), 2)
-        self.assertEqual(os.listdir(self.folder / "c"), [])
         path.unlink()
-        with self.assertRaisesRegex(vdb.MissingFileError, str(path)):
+        with self.assertRaisesRegex(chunks.ChunksFault, f"{path}: chunks: the chunk is missing"):
             broken.labels()
 
+    def test_a_flipped_bit(self):
+        """In any byte of a chunk of values, of states or of checksums, and a chunk where none was."""
+        volume = self.volume.dilate(1, self.folder / "b")
+        for name in ("0", "toggled"):
+            path = self.chunk(volume, name)
+            data = path.read_bytes()
+            for at in range(len(data)):
+                path.write_bytes(data[:at] + bytes([data[at] ^ 1 << at % 8]) + data[at + 1 :])
+                with self.assertRaisesRegex(chunks.ChunksFault, f"{path}: chunks: the chunk has other bytes than were written"):
+                    volume.grid(((8, 8, 8), (8, 8, 8)))
+            path.write_bytes(data)
+        self.same(volume, volume.grid(volume.bounds))
+        path = next(Path(volume.folder).glob("*/sums/0/0/0/0"))
+        data = path.read_bytes()
+        for wrong in (data[:-1] + bytes([data[-1] ^ 1]), data[:-1], b""):
+            path.write_bytes(wrong)
+            with self.assertRaisesRegex(chunks.ChunksFault, f"{volume.folder}: chunks: the volume has another form"):
+                chunks.open(volume.folder)
+        path.unlink()
+        with self.assertRaisesRegex(chunks.ChunksFault, "the checksums of the chunks are others"):
+            chunks.open(volume.folder)
+        lone = self.written(np.pad(self.values[:8, :8, :8], ((0, 8), (0, 0), (0, 0))), "c", side=8)
+        path = next(Path(lone.folder).glob("*/0/0/0/0"))
+        path.with_name("1").write_bytes(path.read_bytes())
+        with self.assertRaisesRegex(chunks.ChunksFault, "0/0/0/1: chunks: the chunk has other bytes"):
+            lone.grid(((0, 0, 0), (15, 0, 0)))
+
+    def test_a_full_disk(self):
+        """Each write fails in turn. The old volume stays, and nothing else."""
+        write, left = zarr.storage.DirectoryStore._tofile, []
+
+        def failing(data, path):
+            if not left[0]:
+                Path(path).write_bytes(bytes(data)[:1])
+                raise OSError(errno.ENOSPC, os.strerror(errno.ENOSPC))
+            left[0] -= 1
+            write(data, path)
+
+        values, volume = self.values[:8, :8, :16], self.written(self.values[:8], side=8)
+        before = vdb.Grid.from_array(self.values[:8])
+        with mock.patch.object(zarr.storage.DirectoryStore, "_tofile", staticmethod(failing)), dask.config.set(scheduler="sync"):
+            for count in range(100):
+                left[:] = [count]
+                try:
+                    made = self.written(values, side=8)
+                    break
+                except vdb.FileError as error:
+                    self.assertEqual(str(error), f"{volume.folder}: No space left on device")
+                self.same(chunks.open(volume.folder), before)
+        self.assertGreater(count, 6)
+        self.same(made, vdb.Grid.from_array(values))
+
+    def test_nothing_else_is_overwritten(self):
+        zarr.save_array(str(self.folder / "z"), self.values)
+        zarr.open_group(str(self.folder / "g"), "w").attrs["multiscales"] = []
+        Path(self.folder, "old").mkdir()
+        Path(self.folder, "old", "chunks.json").write_text("{}")
+        for name in ("z", "g", "old"):
+            files = {it: it.read_bytes() for it in Path(self.folder, name).rglob("*") if it.is_file()}
+            with self.assertRaisesRegex(vdb.VolumeError, f"{self.folder / name}: another array, image or volume is there"):
+                self.volume.select(2, self.folder / name)
+            self.assertEqual({it: it.read_bytes() for it in Path(self.folder, name).rglob("*") if it.is_file()}, files)
+
     def test_what_a_program_left_is_removed(self):
-        """A program that died left a folder of files, and a worker a temporary file. Files of others stay."""
+        """A program that died left a group, and a worker a temporary file. Files of others stay."""
         left = Path(self.volume.folder, "0123456789abcdef")
         left.mkdir()
-        (left / "0_0_0.vdbs").write_bytes(b"left")
-        self.same(chunks.Chunks(self.volume.folder).select(2, self.folder / "b"), self.grid.select(2))
+        (left / "0").write_bytes(b"left")
         other = Path(self.volume.folder, "notes.txt")
         other.write_text("of others")
         again = self.volume.relabel({1: 5}, self.volume.folder)
@@ -288,24 +403,61 @@ class Folders(Case):
         other.unlink()
         self.same(again, self.grid.relabel({1: 5}))
 
-    def test_indices_with_faults(self):
-        path = Path(self.volume.folder, "chunks.json")
-        index = json.loads(path.read_text())
+    def test_attributes_with_faults(self):
+        path = Path(self.volume.folder, ".zattrs")
+        attributes = json.loads(path.read_text())
         for part, wrong in (
-            ("version", 2), ("kind", "f32"), ("kind", []), ("background", True), ("background", 2**31), ("side", 12), ("side", None),
-            ("folder", "../b"), ("folder", index["folder"] + "/"), ("chunks", None), ("chunks", [[0, 0, 0]]),
-            ("chunks", [[[0, 0], 1, None]]), ("chunks", [[[0, 0, 0], "many", None]]), ("chunks", [[[0, 0, 0], 1, [[1, 0, 0], [0, 0, 0]]]]),
+            ("version", 1), ("kind", "f32"), ("kind", []), ("background", True), ("background", 2**31), ("side", 12), ("side", None),
+            ("written", "../b"), ("written", "0" * 16), ("shape", [20, 20]), ("shape", [-1, 20, 20]), ("shape", [20, 20, 30]), ("low", None),
+            ("dtype", "float32"), ("bounds", [[1, 0, 0], [0, 0, 0]]), ("count", "many"), ("sums", 0), ("metadata", {"A": "x"}),
         ):  # fmt: skip
-            path.write_text(json.dumps({**index, part: wrong}))
-            with self.subTest(part=part, wrong=wrong), self.assertRaisesRegex(chunks.ChunksFault, f"{path}: chunks: "):
+            path.write_text(json.dumps({**attributes, "vdb": {**attributes["vdb"], part: wrong}}))
+            with self.subTest(part=part, wrong=wrong), self.assertRaisesRegex(chunks.ChunksFault, f"{self.volume.folder}: chunks: "):
                 chunks.Chunks(self.volume.folder)
-        for data in (b"", b"{", b"[]", b"3", b"\xff", b"{}"):
+        for data in (b"", b"{", b"[1]", b"3", b"\xff", b'{"vdb": []}'):
             path.write_bytes(data)
-            with self.assertRaises(vdb.FormatError):
+            with self.subTest(data=data), self.assertRaises(vdb.FormatError):
                 chunks.Chunks(self.volume.folder)
-        path.unlink()
-        with self.assertRaises(vdb.MissingFileError):
-            chunks.Chunks(self.volume.folder)
+        path.write_text(json.dumps(attributes))
+        array = next(Path(self.volume.folder).glob("*/0/.zarray"))
+        array.write_bytes(array.read_bytes()[:-9])
+        with self.assertRaisesRegex(chunks.ChunksFault, "/0: chunks: no array of zarr"):
+            self.volume.labels()
+        for missing in (path, Path(self.volume.folder, ".zgroup")):
+            missing.unlink()
+            with self.assertRaises(vdb.MissingFileError):
+                chunks.Chunks(self.volume.folder)
+        with self.assertRaisesRegex(vdb.MissingFileError, "none: No such file"):
+            chunks.open(self.folder / "none")
+
+    def test_a_store_of_fsspec(self):
+        place = "memory://labels.zarr"
+        volume = chunks.from_array(self.values, place, side=8)
+        self.grid.dilate(1)
+        made = volume.dilate(1, place)
+        self.assertEqual((made.folder, made.count, made.bounds), (place, self.grid.count, self.grid.bounds))
+        self.assertTrue(made.grid(made.bounds) == self.grid)
+        self.assertEqual(len([it for it in zarr.storage.FSStore(place).listdir("") if not it.startswith(".")]), 1)
+
+    def test_blocks(self):
+        """A call on each of them, with the voxels around: faces between two labels, against NumPy. And masks are masks."""
+        values = np.pad(self.values, ((0, 20), (0, 0), (0, 0)))
+        volume = self.written(values, "b", side=8)
+        self.assertEqual(len(volume.blocks()), 27)
+        self.assertEqual(volume.blocks()[0], ((0, 0, 0), (7, 7, 7)))
+        self.assertEqual(sum(volume.map(count_of)), np.count_nonzero(values))
+        for (low, high), found in zip(volume.blocks(), volume.map(dense_of, halo=1)):
+            box = tuple(slice(max(0, a - 1), b + 2) for a, b in zip(low, high))
+            self.assertEqual(found, int(values[box].sum()))
+        mask = volume.select(2, self.folder / "c").dilate(1, self.folder / "c")
+        one = self.grid.select(2)
+        one.dilate(1)
+        self.assertIsInstance(mask.grid(mask.bounds), vdb.Mask)
+        self.same(mask, one)
+        small = self.written(values.astype(np.uint8), "c", side=8)
+        for one in (small, volume):
+            self.same(one.relabel({1: 70000}, self.folder / "d"), vdb.Grid.from_array(np.where(values == 1, 70000, values)))
+        self.same(self.written(values.astype(np.uint8), "c", side=8, background=-1), vdb.Grid.from_array(values, background=-1))
 
     def test_without_dask(self):
         text = (
@@ -318,13 +470,104 @@ class Folders(Case):
         with mock.patch.dict(sys.modules, {"zarr": None}), self.assertRaisesRegex(ImportError, "python3-zarr"):
             self.written("z", "b")
 
+    def test_bytes(self):
+        """A full volume takes at most 1.3 times the bytes of zarr's own array."""
+        values, bytes_of = labels_of(1, (128, 64, 64), 1), []
+        zarr.save_array(str(self.folder / "z"), values, chunks=64)
+        for folder in ("z", Path(self.written(values, "b", side=64).folder).name):
+            bytes_of.append(sum(it.stat().st_size for it in Path(self.folder, folder).rglob("*") if it.is_file()))
+        self.assertLess(bytes_of[1], 1.3 * bytes_of[0])
+
     def test_memory(self):
         """A volume of 4 GiB as an array passes through 2 GiB of addresses. The program fails if its result isn't what it computes."""
         words = [sys.executable, str(Path(__file__).with_name("chunks_memory.py")), "1024", "2"]
         environment = {**os.environ, "PYTHONPATH": str(TOP / "python")}
-        ran = subprocess.run(words, env=environment, capture_output=True, text=True, timeout=300)
+        ran = subprocess.run(words, env=environment, capture_output=True, text=True, timeout=900)
         self.assertEqual((ran.returncode, ran.stderr), (0, ""), ran.stdout)
         self.assertRegex(ran.stdout, r"1024\^3 voxels")
+
+
+class OldFolders(Case):
+    """Folders of scene files with an index, as version 1.1 wrote them."""
+
+    PAIRS = {"affine_x": "0.5,0,0,1", "affine_y": "0,2,0,0", "affine_z": "0,0,1,0"}
+
+    def old(self, grid, side, box, **changes):
+        """Writes the chunks of a grid that has nothing outside a box, each that isn't the background. Returns the index."""
+        place = self.folder / "old" / ("0" * 16)
+        place.mkdir(parents=True, exist_ok=True)
+        rows = []
+        for number in product(*(range(low // side, high // side + 1) for low, high in zip(*box))):
+            part = grid.copy()
+            part.clip([[max(LEAST, at * side) for at in number], [min(MOST, at * side + side - 1) for at in number]])
+            if part.census().roots:
+                vdb.Scene({"chunk": part}).save(place / "{}_{}_{}.vdbs".format(*number))
+                rows.append([number, part.count, part.bounds])
+        index = {"version": 1, "kind": grid.kind, "background": grid.background, "side": side, "folder": "0" * 16, "chunks": rows,
+                 "metadata": self.PAIRS, **changes}  # fmt: skip
+        (self.folder / "old" / "chunks.json").write_text(json.dumps(index))
+        return index
+
+    def test_they_are_read_and_converted(self):
+        for values, low, side, background in (
+            (labels_of(1, (30, 20, 10), 0.1), (-7, 3, 0), 16, 0), (labels_of(2, (9, 9, 9), 0.5), (LEAST, 5, MOST - 8), 24, -1),
+            (labels_of(3, (20, 9, 9), 0.2, np.bool_), (0, 0, 0), 8, False), (np.zeros((3, 3, 3), np.int64), (0, 0, 0), 8, 0),
+        ):  # fmt: skip
+            grid = vdb.Grid.from_array(values, origin=low, background=background)
+            grid.erode(1)
+            self.old(grid, side, (low, [at + length - 1 for at, length in zip(low, values.shape)]))
+            volume = chunks.open(self.folder / "old")
+            self.assertEqual((volume.kind, volume.background, volume.count, volume.bounds), (grid.kind, background, grid.count, grid.bounds))
+            for made in (chunks.convert(self.folder / "old", self.folder / "a"), chunks.open(self.folder / "a")):
+                self.assertTrue(grid_in(made, low, values.shape) == grid_in(volume, low, values.shape))
+                self.assertEqual(dict(made.metadata), self.PAIRS)
+            self.assertEqual(rows(made.labels()), rows(grid.labels()))
+            grid.dilate(2)
+            self.assertEqual(rows(volume.dilate(2, self.folder / "b").labels()), rows(grid.labels()))
+
+    def test_an_index_without_metadata(self):
+        index = self.old(vdb.Grid.from_array(np.ones((3, 3, 3), np.int32)), 8, ((0, 0, 0), (2, 2, 2)))
+        path = self.folder / "old" / "chunks.json"
+        del index["metadata"]
+        path.write_text(json.dumps(index))
+        self.assertEqual(dict(chunks.Chunks(self.folder / "old").metadata), {})
+        path.write_text(json.dumps({**index, "metadata": {"A": "x"}}))
+        with self.assertRaises(chunks.ChunksFault):
+            chunks.Chunks(self.folder / "old")
+
+    def test_indices_with_faults(self):
+        index = self.old(vdb.Grid.from_array(np.ones((3, 3, 3), np.int32)), 8, ((0, 0, 0), (2, 2, 2)))
+        path = self.folder / "old" / "chunks.json"
+        for part, wrong in (
+            ("version", 2), ("kind", "f32"), ("kind", []), ("background", True), ("background", 2**31), ("side", 12), ("side", None),
+            ("folder", "../b"), ("folder", index["folder"] + "/"), ("chunks", None), ("chunks", [[0, 0, 0]]),
+            ("chunks", [[[0, 0], 1, None]]), ("chunks", [[[0, 0, 0], "many", None]]), ("chunks", [[[0, 0, 0], 1, [[1, 0, 0], [0, 0, 0]]]]),
+        ):  # fmt: skip
+            path.write_text(json.dumps({**index, part: wrong}))
+            with self.subTest(part=part, wrong=wrong), self.assertRaisesRegex(chunks.ChunksFault, f"{path}: chunks: "):
+                chunks.Chunks(self.folder / "old")
+        for data in (b"", b"{", b"[]", b"3", b"\xff", b"{}"):
+            path.write_bytes(data)
+            with self.assertRaises(vdb.FormatError):
+                chunks.Chunks(self.folder / "old")
+        path.write_text(json.dumps(index))
+        volume = chunks.open(self.folder / "old")
+        next((self.folder / "old").glob("*/0_0_0.vdbs")).unlink()
+        with self.assertRaisesRegex(vdb.MissingFileError, "0_0_0.vdbs"):
+            volume.labels()
+
+
+def count_of(grid):
+    return grid.count
+
+
+def dense_of(grid):
+    return int(grid[...].sum())
+
+
+def grid_in(volume, low, shape):
+    """The voxels of a volume in the box of an array."""
+    return volume.grid((low, [at + length - 1 for at, length in zip(low, shape)]))
 
 
 class Processes(Case):
@@ -363,9 +606,9 @@ class Processes(Case):
 
         def kill():
             while not done:
-                files = list(place.glob("*/*.vdbs"))
+                files = list(place.glob("*/0/*/*/*"))
                 if len(files) >= 3:
-                    (files[0].parent / ".left.tmp").write_bytes(b"left")
+                    (files[0].parent / "0.left.partial").write_bytes(b"left")
                     os.kill(next(iter(pids.values())), signal.SIGKILL)
                     done.append(len(files))
                 time.sleep(0.001)
@@ -374,7 +617,7 @@ class Processes(Case):
         killer.start()
         made = call(place)
         killer.join()
-        self.assertLess(done[0], len(made._index.entries))
+        self.assertLess(done[0], len(made.blocks()))
         self.client.wait_for_workers(2)
         self.assertEqual(len({*pids.values()} - {*self.client.run(os.getpid).values()}), 1)
         return made

@@ -285,7 +285,7 @@ class CommandLine(CommandCase):
         self.fails("labels", "a.vdbs", "x", told="a.vdbs: there is no grid x; it has lab")
         self.fails("convert", "a.vdbs", "o.npy", "--grid", "lab", "--fill", "true", told="integer")
         self.fails("convert", "a.vdbs", "o.npy", "--grid", "lab", "--max-bytes", "9", told="more than max_bytes = 9")
-        self.fails("convert", "a.vdbs", "b.vdbs", "--grid", "a", told="b.vdbs: one of IN and OUT is a scene file (.vdbs), and not both")
+        self.fails("convert", "a.vdbs", "b.vdbs", "--grid", "a", told="b.vdbs: one of IN and OUT is a scene file (.vdbs, .vdbs.gz), and not both")
         self.fails("convert", "a.vdbs", "b.txt", told="b.txt: the ending is none of .npy")
         (self.folder / "bad.npy").write_bytes(data)
         self.fails("convert", "bad.npy", "b.vdbs", told="bad.npy: no .npy file")

@@ -8,6 +8,7 @@ import re
 import threading
 import time
 import unittest
+import zlib
 from collections.abc import Iterator
 from unittest import mock
 
@@ -206,8 +207,24 @@ class Copies(unittest.TestCase):
             self.assertEqual(grid, other)
             other.set_value((2, 8, 4095), 77)
             self.assertNotEqual(grid, other)
-            with self.assertRaises(vdb.SceneTooLongError):
-                pickle.dumps(grid)
+
+    @needs_library
+    def test_grids_too_long_for_a_file_are_pickled_in_parts(self):
+        """With values of every kind that are inactive, and voxels at both ends of the coordinates. Parts are compressed."""
+        for kind, backgrounds in (("bool", (False, True)), ("i32", (0, -3)), ("i64", (0, 2**40))):
+            for background in backgrounds:
+                values, active = sample(5, kind)
+                grid = vdb.Grid.from_array(values // 4 if kind != "bool" else values, active, LOW, background, 9, {"unit": "mm"})
+                grid.write_many([(-(2**31),) * 3, (2**31 - 1,) * 3], [True, False] if kind == "bool" else [7, -9], [True, False])
+                length = len(vdb.Scene({"a": grid}).to_bytes()) // 3
+                with self.subTest(kind=kind, background=background), mock.patch("vdb.encoded.MAX_FILE", length):
+                    parts = grid.__reduce__()[1][0]
+                    self.assertGreater(len(parts), 2)
+                    self.assertLessEqual(max(len(zlib.decompress(it)) for it in parts), length)
+                    other = pickle.loads(pickle.dumps(grid))
+                self.assertEqual((other, other.limit, dict(other.metadata)), (grid, 9, {"unit": "mm"}))
+        with mock.patch("vdb.encoded.MAX_FILE", 2000), self.assertRaises(vdb.SumRangeError):
+            pickle.dumps(vdb.Grid.from_array(np.arange(2**31 - 512, 2**31).reshape(8, 8, 8).astype(np.int32), background=-1))
 
     def test_text(self):
         for package in PACKAGES:

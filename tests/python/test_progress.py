@@ -83,7 +83,7 @@ class Reports(unittest.TestCase):
     def test_chunks_report_to_callbacks_of_dask(self):
         with tempfile.TemporaryDirectory() as folder:
             done = []
-            with Callback(posttask=lambda *_: done.append(1)):
+            with mock.patch("vdb.chunks.BLOCK", 8), Callback(posttask=lambda *_: done.append(1)):
                 made = chunks.from_array(np.ones((16, 16, 16), np.int32), f"{folder}/a", side=8)
                 first = len(done)
                 made.dilate(1, f"{folder}/b")

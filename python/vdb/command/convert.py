@@ -1,7 +1,7 @@
 # SPDX-License-Identifier: Apache-2.0
 """Turns a file of another format into a grid of a scene file, or a grid into such a file.
 
-One of IN and OUT is a scene file (.vdbs). The ending of the other one names its format:
+One of IN and OUT is a scene file (.vdbs, .vdbs.gz). The ending of the other one names its format:
 {endings}. Arrays have the axes x, y, z.
 A scene file that exists keeps its other grids. A grid of the same name is replaced; its
 metadata and root limit stay. A grid that was an image is written as that image, with its shape,
@@ -21,13 +21,14 @@ from ..formats import npy
 from ..formats.volume import as_kind
 from ..images import DTYPES
 from ..scenefile import Grid, Mask, Scene
+from ..zarr_stores import is_store
 from .common import (
     Problem, about, add_bounds, add_max_bytes, box_of, grid_of, limit_word, loaded, name_word, numbers_of, output, progress, saved, value_word,
 )  # fmt: skip
 
 __doc__ = __doc__.format(endings=", ".join(formats.FORMATS))
 EXAMPLE = "convert labels.npy scene.vdbs --grid organs --origin 0 0 -20\n         vdb-scene convert scene.vdbs organs.npy --bounds 0 0 0 63 63 63"
-SCENE = ".vdbs"
+SCENE = (".vdbs", ".vdbs.gz")
 
 
 def add_arguments(parser: argparse.ArgumentParser) -> None:
@@ -40,6 +41,7 @@ def add_arguments(parser: argparse.ArgumentParser) -> None:
                         "is beside IN or in it)")  # fmt: skip
     parser.add_argument("--digest", action="store_true", help="write the SHA-256 of the scene file OUT to OUT.sha256, which sha256sum -c checks; "
                         "compare the scene file IN with IN.sha256")  # fmt: skip
+    parser.add_argument("--gzip", action="store_true", help="compress the scene file OUT.vdbs to OUT.vdbs.gz")
     add_max_bytes(parser)
     into = parser.add_argument_group("into a scene file")
     into.add_argument("--origin", nargs=3, type=int, metavar=("X", "Y", "Z"), help="the coordinate of the first voxel (default: that in IN, or 0 0 0)")
@@ -60,7 +62,9 @@ def add_arguments(parser: argparse.ArgumentParser) -> None:
 def run(arguments: argparse.Namespace) -> None:
     into = arguments.out.endswith(SCENE)
     if into == arguments.source.endswith(SCENE):
-        raise Problem(f"{arguments.out}: one of IN and OUT is a scene file ({SCENE}), and {'not both' if into else 'neither is'}")
+        raise Problem(f"{arguments.out}: one of IN and OUT is a scene file ({', '.join(SCENE)}), and {'not both' if into else 'neither is'}")
+    if arguments.gzip and arguments.out.endswith(SCENE[0]):
+        arguments.out += ".gz"
     (read_in if into else write_out)(arguments)
 
 
@@ -97,7 +101,7 @@ def names_of(arguments: argparse.Namespace, grid: str) -> label_names.Names:
 
 def name_of(path: str) -> str:
     """Returns the name for the grid of a file, which is that of the file."""
-    name = os.path.basename(path).partition(".")[0]
+    name = os.path.basename(path.rstrip("/")).partition(".")[0]
     if not NAME_FORM.match(os.fsencode(name)):
         raise Problem(f"{path}: choose a name for the grid by --grid: the file's isn't a letter a to z and up to 15 of a to z, 0 to 9 and _")
     return name
@@ -117,7 +121,7 @@ def write_out(arguments: argparse.Namespace) -> None:
         volumes = formats.volume_of(
             grid, box_of(arguments.bounds), arguments.fill, arguments.dtype, arguments.max_bytes, arguments.strict
         )
-        if not arguments.active and not arguments.values_only:
+        if not arguments.active and not arguments.values_only and not is_store(arguments.out):
             formats.check_shown(grid, volumes[0].values, volumes[1].values, arguments.fill)
     for path, volume in zip(outs, volumes):
         if path == "-":

@@ -15,7 +15,7 @@ from __future__ import annotations
 import contextlib
 import os
 import warnings
-from typing import Any, BinaryIO, Dict, Iterator, Mapping, Protocol, Sequence, Tuple, Type, TypeVar
+from typing import Any, Dict, Iterator, Mapping, Sequence, Tuple, Type, TypeVar
 
 import numpy as np
 
@@ -24,7 +24,8 @@ from ..files import naming, replacing
 from ..forms import DEFAULT_LIMIT, Array, Bounds, Coordinate, Progress, Value, check_bounds, check_coordinate, kind_of
 from ..images import DTYPES, Image, affine_of, moved, rows_of
 from ..reading import MAX_BYTES, Readable
-from . import nifti, npy, nrrd, tiff, vti
+from ..zarr_stores import is_store
+from . import nifti, npy, nrrd, ome_zarr, tiff, vti
 from .volume import CHUNK, Volume, as_kind
 
 __all__ = ["load", "save", "read", "write", "Volume", "FORMATS"]
@@ -32,23 +33,19 @@ __all__ = ["load", "save", "read", "write", "Volume", "FORMATS"]
 G = TypeVar("G", bound=Readable)
 
 
-class Format(Protocol):
-    """A module of this folder, which reads and writes the files of a format."""
 
-    def read(self, path: str, max_bytes: int, floats: bool = False) -> Volume: ...
-
-    def write(self, file: BinaryIO, _path: str, volume: Volume) -> None: ...
-
-
-#: The format of each ending.
-FORMATS: Dict[str, Format] = {
+#: The format of each ending. A store of zarr is written by `write_store`, any other by `write(file, path, volume)`.
+FORMATS: Dict[str, Any] = {
     ".npy": npy, ".nii": nifti, ".nii.gz": nifti, ".nrrd": nrrd, ".nhdr": nrrd, ".tif": tiff, ".tiff": tiff, ".vti": vti,
+    ".zarr": ome_zarr,
 }  # fmt: skip
 
 
-def format_of(path: "str | os.PathLike[str]") -> Format:
+def format_of(path: "str | os.PathLike[str]") -> Any:
     """Returns the format of a file by its ending. Raises RangeError for another ending."""
     name = os.fspath(path).lower()
+    if is_store(name):
+        return ome_zarr
     for ending, made in FORMATS.items():
         if name.endswith(ending):
             return made
@@ -89,7 +86,8 @@ def read(path: "str | os.PathLike[str]", max_bytes: int = MAX_BYTES, floats: boo
     """
     made, name = format_of(path), os.fspath(path)
     with reading(name):
-        open(name, "rb").close()  # a package may have an error of its own for a file that can't be read
+        if made is not ome_zarr:
+            open(name, "rb").close()  # a package may have an error of its own for a file that can't be read
         return made.read(name, max_bytes, floats)
 
 
@@ -103,8 +101,11 @@ def write(path: "str | os.PathLike[str]", volume: Volume) -> None:
     (7, 8, 9)
     """
     made, name = format_of(path), os.fspath(path)
-    with reading(name), replacing(name) as file:
-        made.write(file, name, volume)
+    with reading(name):
+        if made is ome_zarr:
+            return ome_zarr.write_store(name, volume)
+        with replacing(name) as file:
+            made.write(file, name, volume)
 
 
 def load(
@@ -136,6 +137,7 @@ def load(
     volume = read(path, max_bytes)
     at = volume.origin or (0, 0, 0) if origin is None else check_coordinate(origin, "origin")
     values = volume.values if kind is None else as_kind(volume.values, kind_of(kind))
+    active, background = (volume.states if active is None else active), (volume.background if background is None else background)
     grid = form.from_array(values, active, at, background, limit, metadata, progress)  # type: ignore[attr-defined]
     dtype = volume.dtype if volume.dtype is not None and volume.dtype.name in DTYPES else volume.values.dtype
     affine = affine_of(grid.metadata)
@@ -164,7 +166,7 @@ def save(
     box. Active voxels outside the image are a VdbWarning, or with `strict` a GeometryError. `bounds`, `fill`, `dtype` and `max_bytes` are
     those of `to_array`. `progress` is called with the number of voxels that are read, and of all.
 
-    A file of values shows no states. So without `active` or `values_only` a bool grid whose values and states differ is a RangeError: save
+    A store of zarr keeps states and background, and any other file of values shows no states. So without `active` or `values_only` a bool grid whose values and states differ is a RangeError: save
     a `Mask` of it. Active voxels of an integer grid that have the background, as after `dilate`, are a VdbWarning.
 
     Raises the errors of `write` and `to_array`, RangeError with a value that the dtype doesn't hold and its coordinate, and VolumeError if
@@ -181,7 +183,7 @@ def save(
         if name is not None:
             format_of(name)
     volume, states = volume_of(grid, bounds, fill, dtype, max_bytes, strict, progress)
-    if active is None and not values_only:
+    if active is None and not values_only and not is_store(path):
         check_shown(grid, volume.values, states.values, fill)
     write(path, volume)
     if active is not None:
@@ -209,10 +211,10 @@ def volume_of(
             raise GeometryError(told)
         warnings.warn(told, VdbWarning, stacklevel=3)
     affine = moved(affine_of(grid.metadata), low)
-    if not image:
-        return Volume(values, affine, low), Volume(states, affine, low)
-    offset = low[0] - image.low[0], low[1] - image.low[1], low[2] - image.low[2]
-    return Volume(values, affine, low, image.notes, None, offset), Volume(states, affine, low, image.notes, None, offset)
+    made = Volume(values, affine, low)
+    if image:
+        made = made._replace(notes=image.notes, offset=(low[0] - image.low[0], low[1] - image.low[1], low[2] - image.low[2]))
+    return made._replace(states=None if fill is not None else states, background=grid.background), made._replace(values=states)
 
 
 def check_shown(grid: Readable, values: np.ndarray, states: np.ndarray, fill: "Value | None") -> None:

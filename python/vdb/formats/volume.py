@@ -11,7 +11,7 @@ from typing import Any, Iterator, Mapping, NamedTuple, NoReturn, Optional, Seque
 import numpy as np
 
 from ..errors import RangeError, VolumeError
-from ..forms import Coordinate, Kind
+from ..forms import Coordinate, Kind, Value
 from ..reading import check_bytes
 
 #: How many voxels are converted at a time, about.
@@ -25,7 +25,8 @@ class Volume(NamedTuple):
 
     `affine` (3 x 4, float64) maps the INDEX of a voxel to its place in the world. `origin` is the coordinate of the first voxel. Either is
     None if the file doesn't say. `notes` are texts by the keys of vdb.images.NOTES, of an image in which the first voxel has the index
-    `offset`. `dtype` is that of the values in the file, if it isn't the array's.
+    `offset`. `dtype` is that of the values in the file, if it isn't the array's. `states` (bool) and `background` are of a grid, in a format
+    that keeps them, or None.
 
     Examples
     --------
@@ -40,6 +41,8 @@ class Volume(NamedTuple):
     notes: Mapping[str, str] = {}
     dtype: "np.dtype | None" = None
     offset: Coordinate = (0, 0, 0)
+    states: "np.ndarray | None" = None
+    background: "Value | None" = None
 
 
 def stored(values: np.ndarray) -> np.ndarray:

@@ -2,14 +2,13 @@
 """A scene, which is the content of a file: grids by name."""
 from __future__ import annotations
 
-import hashlib
 import os
 import stat
 from itertools import chain
 from typing import Iterator, Optional
 
 from ..errors import SceneTooLongError
-from ..files import check_digest, naming, replacing, write_digest
+from ..files import check_digest, naming, replacing_scene, unzipped
 from ..forms import DEFAULT_LIMIT, MAX_FILE, Progress
 from ..grids import Grids
 from .grid import Grid
@@ -31,25 +30,21 @@ class Scene(Grids[Grid]):
         return b"".join(self._encoded()[1])
 
     def save(self, path: "str | os.PathLike[str]", progress: Optional[Progress] = None, *, digest: bool = False) -> None:
-        """Writes the encoding of the scene to a file.
+        """Writes the encoding of the scene to a file, compressed by gzip if its name ends in .gz.
 
         The bytes go to a temporary file in the same folder, which then takes the place of `path`. `progress` is called with
-        the number of bytes written so far and that of all. With `digest` the SHA-256 of the bytes is written to PATH.sha256, in
-        the form of sha256sum. Raises SceneTooLongError if there are more than 268,435,456, and FileError if the file can't be
-        written; an existing file stays as it was then.
+        the number of bytes encoded so far and that of all. With `digest` the SHA-256 of the file is written to PATH.sha256, in
+        the form of sha256sum. Raises SceneTooLongError if the encoding has more than 268,435,456 bytes, and FileError if the
+        file can't be written; an existing file stays as it was then.
         """
         length, pieces = self._encoded()
-        done, sha256 = 0, hashlib.sha256()
-        with replacing(path) as file:
+        done = 0
+        with replacing_scene(path, digest) as write:
             for piece in pieces:
-                file.write(piece)
+                write(piece)
                 done += len(piece)
-                if digest:
-                    sha256.update(piece)
                 if progress:
                     progress(done, length)
-        if digest:
-            write_digest(path, sha256)
 
     def _encoded(self) -> "tuple[int, Iterator[bytes]]":
         """Returns how many bytes the encoding has, and yields them piece by piece."""
@@ -66,7 +61,7 @@ class Scene(Grids[Grid]):
 
 
 def load(path: "str | os.PathLike[str]", progress: Optional[Progress] = None, *, digest: bool = False) -> Scene:
-    """Reads a scene file of version 1 or 2.
+    """Reads a scene file of version 1 or 2, compressed if its name ends in .gz.
 
     `progress` is called with the number of bytes read so far and the size of the file. It takes less than ten times the memory of
     the file's bytes, of which it reads at most 268,435,457. With `digest` the bytes are compared with PATH.sha256.
@@ -88,8 +83,12 @@ def load(path: "str | os.PathLike[str]", progress: Optional[Progress] = None, *,
             del data[read : len(data) - PADDING]
         else:
             data = bytearray(file.read(MAX_FILE + 1) + bytes(PADDING))
+    view = memoryview(data)[: len(data) - PADDING]
     if digest:
-        check_digest(path, memoryview(data)[: len(data) - PADDING])
+        check_digest(path, view)
+    found = unzipped(path, view, MAX_FILE + 1)
+    if found is not view:
+        data = found + bytes(PADDING)
     return _scene(Reader(data, os.fspath(path), progress))
 
 
