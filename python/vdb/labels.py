@@ -179,9 +179,8 @@ def centroids(items: Items, voxels: np.ndarray, low: np.ndarray) -> np.ndarray:
         for axis in range(3):
             at = 2 * (corners[:, axis].astype(np.int64) - origin[axis]) + side - 1
             np.add.at(sums[axis], cells, at.astype(sums.dtype) * side**3)
-    twice = 2 * voxels.astype(sums.dtype)
-    whole, rest = sums[:, 1:] // twice, sums[:, 1:] % twice
-    return ((origin[:, None] + whole).astype(np.float64) + rest.astype(np.float64) / twice.astype(np.float64)).T
+    twice = 2 * voxels.astype(object)  # the quotient of Python's integers is the nearest float
+    return ((sums[:, 1:] + origin[:, None].astype(object) * twice) / twice).astype(np.float64).T
 
 
 def inside_faces(items: Items, faces: Faces) -> None:
