@@ -1,13 +1,18 @@
 # SPDX-License-Identifier: Apache-2.0
 """Measures, components and morphology of labels, against NumPy and scipy on the dense array."""
 import itertools
+import subprocess
+import tempfile
 import unittest
 from fractions import Fraction
+from pathlib import Path
 from unittest import mock
 
 from scipy import ndimage
 
-from .support import chance, encoding, library_missing, np, random_array, scenefile, vdb
+from vdb.library import places
+
+from .support import TOP, chance, encoding, library_missing, np, random_array, scenefile, vdb
 
 labels = vdb.labels
 needs_library = unittest.skipIf(library_missing(), library_missing())
@@ -15,12 +20,14 @@ LOW = (-37, 3, 4070)
 
 
 def blobs(seed, shape, count):
-    """Labels 1 to count of smooth shapes, like organs, with an empty border."""
-    dice = np.random.default_rng(seed)
-    fields = [ndimage.gaussian_filter(dice.standard_normal(shape), max(shape) / 16) for _ in range(count)]
-    fields = np.stack([field / field.std() for field in fields])
-    made = np.where(fields.max(axis=0) > 1.6, fields.argmax(axis=0) + 1, 0).astype(np.int32)
-    made[:2], made[-2:], made[:, :2], made[:, -2:], made[:, :, :2], made[:, :, -2:] = (0,) * 6
+    """Labels 1 to count of rough ellipsoids, like organs, some of which meet, with an empty border."""
+    dice, made = np.random.default_rng(seed), np.zeros(shape, np.int32)
+    for label in range(1, count + 1):
+        radii = dice.integers(max(3, min(shape) // 12), max(5, min(shape) // 4), 3)
+        centre = [dice.integers(radius + 2, side - radius - 2) for radius, side in zip(radii, shape)]
+        place = tuple(slice(at - radius, at + radius + 1) for at, radius in zip(centre, radii))
+        x, y, z = (axis / radius for axis, radius in zip(np.ogrid[tuple(slice(-radius, radius + 1) for radius in radii)], radii))
+        made[place][x * x + y * y + z * z + 0.2 * np.sin(20 * x) * np.sin(17 * y) * np.sin(23 * z) < 0.9] = label
     return made
 
 
@@ -39,10 +46,10 @@ def samples():
     yield "cells", (made := cells(2, 66, 3)), made != 0, (0, -4, -4100)
     dice = np.random.default_rng(3)
     yield "noise", dice.integers(-2, 30, (24, 17, 31)), dice.random((24, 17, 31)) < 0.4, (-8, 5, 2**31 - 31)
-    tiles = np.zeros((272, 140, 136), np.int32)
-    tiles[8:264, 3:136, :128] = 5
-    tiles[136:264, 8:136, :128] = 6
-    tiles[130:140, 60:70, 100:] = 7
+    tiles = np.zeros((148, 140, 136), np.int32)
+    tiles[2:140, 3:136, :128] = 5
+    tiles[8:136, 8:136, :128] = 6
+    tiles[130:147, 60:70, 100:] = 7
     yield "tiles", tiles, tiles != 0, (-8, -8, 256)
     yield "one voxel", np.full((1, 1, 1), 9), np.ones((1, 1, 1), bool), (-(2**31), 7, 2**31 - 1)
     yield "none", np.full((3, 3, 3), 4), np.zeros((3, 3, 3), bool), (0, 0, 0)
@@ -212,7 +219,7 @@ class Morphology(unittest.TestCase):
 
     def masks(self):
         for seed in range(4):
-            states = blobs(seed, (60, 44, 50), 3) != 0
+            states = blobs(seed, (60, 44, 50), 5) != 0
             states[20:36, 8:40, 8:40] |= seed % 2 == 0
             states ^= np.random.default_rng(seed).random(states.shape) < 0.002
             yield np.pad(states, 20), tuple(at - 20 for at in LOW)
@@ -279,6 +286,49 @@ class Morphology(unittest.TestCase):
             found, states = grid.to_array(box)
             np.testing.assert_array_equal(found, np.where(lost, 5, values))
             np.testing.assert_array_equal(states, (values != 5) & ~lost)
+
+
+@needs_library
+class Cpp(unittest.TestCase):
+    """Each call of vdb_labels.hpp makes what the call of Python does, which the tests above compare with scipy."""
+
+    def test_calls(self):
+        with tempfile.TemporaryDirectory() as folder:
+            library = next(Path(place).resolve() for place in places() if Path(place).exists())
+            program = f"{folder}/labels"
+            words = "-std=c++17 -O1 -Wall -Wextra -pedantic -Werror".split()
+            subprocess.run(["g++", *words, f"-I{TOP / 'include'}", TOP / "tests" / "c" / "labels.cpp", library, f"-Wl,-rpath,{library.parent}", "-o",
+                            program], check=True)  # fmt: skip
+            values = blobs(7, (70, 40, 48), 4)
+            values[8:25, 8:40, 8:33], values[12:16, 12:16, 12:16] = 1, 0
+            tiles = np.pad(values, ((0, 138), (24, 96), (32, 80)))
+            tiles[72:200, 24:152, 32:160] = 2
+            for array, label, low in ((values, 1, (-5, 3, -77)), (tiles, 2, (56, -24, -160))):
+                with self.subTest(shape=array.shape):
+                    self.check(vdb.Grid.from_array(array, origin=low), label, array, low, program, folder)
+
+    def check(self, grid, label, array, low, program, folder):
+        vdb.Scene({"a": grid}).save(f"{folder}/a.vdbs")
+        spacing = (0.5, 0.75, 3)
+        words = [program, f"{folder}/a.vdbs", f"{folder}/made.vdbs", label, 3.2, *spacing]
+        lines = subprocess.run([*map(str, words)], check=True, capture_output=True, text=True).stdout.splitlines()
+        among, counts, means, areas, contacts = expected(array, array != 0, low, spacing)
+        for line, value, count, area, row in zip(lines, among.tolist(), counts, areas.tolist(), labels.measure(grid, spacing).rows()):
+            found = [float(word) for word in line.split()]
+            self.assertEqual(found[:7], [value, count, count * 1.125, area, *means[value]])
+            self.assertEqual(found[7:13], [*row.low, *row.high])
+            self.assertEqual(dict(zip(found[13::2], found[14::2])), {sum(pair) - value: area for pair, area in contacts.items() if value in pair})
+        self.assertEqual(len(lines), len(among))
+        wanted = {"six": labels.components(grid), "eighteen": labels.components(grid, 18), "more": labels.components(grid, 26)}
+        wanted.update(opened=labels.open(grid, 2), closed=labels.close(grid, 18), filled=labels.fill_holes(grid), margin=labels.margin(grid, 3.2, spacing))
+        wanted.update(chosen=grid.select([label, label + 1]), changed=grid.relabel({label: label + 1, label + 1: 77}), where=grid.where(grid == label))
+        wanted.update(dilated=grid.copy(), eroded=grid.copy())
+        wanted["dilated"].dilate_label(label, 2)
+        wanted["eroded"].erode_label(label, 2)
+        made = vdb.load(f"{folder}/made.vdbs")
+        self.assertEqual([*made], sorted(wanted))
+        for name, one in wanted.items():
+            self.assertEqual(made[name], one, name)
 
 
 if __name__ == "__main__":
