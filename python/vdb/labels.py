@@ -34,7 +34,7 @@ from .reading import Walkable
 if TYPE_CHECKING:
     from .label_names import Label
 
-__all__ = ["Measures", "MeasureRow", "close", "components", "fill_holes", "margin", "measure", "open"]
+__all__ = ["Measures", "close", "components", "fill_holes", "margin", "measure", "open"]
 
 #: The connectivities: how many coordinates a step to a neighbour changes.
 ORDERS = {6: 1, 18: 2, 26: 3}
@@ -66,7 +66,7 @@ class Measures(NamedTuple):
     --------
     >>> found = vdb.labels.measure(vdb.Grid.from_array(np.array([[[5, 5, 0, 2], [5, 2, 2, 2]]])), spacing=(1, 1, 2))
     >>> found.values.tolist(), found.voxels.tolist(), found.volume.tolist(), found.area.tolist()
-    ([2, 5], [4, 3], [8.0, 6.0], [30.0, 24.0])
+    ([2, 5], [4, 3], [8.0, 6.0], [32.0, 24.0])
     >>> found.centroid[1].tolist(), found.extent[1].tolist(), found.pairs.tolist(), found.contacts.tolist()
     ([0.0, 0.3333333333333333, 0.3333333333333333], [1.0, 2.0, 4.0], [[2, 5]], [3.0])
     """
@@ -150,7 +150,14 @@ def tallied(codes: np.ndarray, span: int, each: int) -> "tuple[np.ndarray, np.nd
 
 def measure(grid: Walkable, spacing: "Sequence[float] | None" = None) -> Measures:
     """Returns the measures of each label of a grid, a view, or a grid of a scene file. Sums are exact; what is divided or multiplied by
-    the spacing is a float. Raises RangeError for a spacing that isn't three positive numbers."""
+    the spacing is a float. Raises RangeError for a spacing that isn't three positive numbers.
+
+    Examples
+    --------
+    >>> organ = vdb.Grid.from_array(np.full((2, 3, 4), 7))
+    >>> [(row.value, row.volume, row.centroid) for row in vdb.labels.measure(organ, spacing=(1, 1, 2)).rows()]
+    [(7, 48.0, (0.5, 1.0, 1.5))]
+    """
     sizes = spacing_of(grid, spacing)
     values, voxels, low, high = grid.labels()
     sides = (high.astype(np.int64) - low + 1) * sizes
@@ -355,12 +362,28 @@ def changed(mask: Mask, names: Sequence[str], iterations: int) -> Mask:
 
 
 def open(mask: Grid, iterations: int = 1) -> Mask:
-    """Returns the mask of the active voxels, opened: eroded, then dilated in as many iterations by faces. It loses what is thinner."""
+    """Returns the mask of the active voxels, opened: eroded, then dilated in as many iterations by faces. It loses what is thinner.
+
+    Examples
+    --------
+    >>> mask = vdb.Mask.from_array(np.ones((3, 3, 3), bool))
+    >>> mask[1, 1, 3:9] = True
+    >>> mask.count, vdb.labels.open(mask).count
+    (33, 12)
+    """
     return changed(Mask(mask), ("erode", "dilate"), iterations)
 
 
 def close(mask: Grid, iterations: int = 1) -> Mask:
-    """Returns the mask of the active voxels, closed: dilated, then eroded in as many iterations by faces. Narrower gaps are filled."""
+    """Returns the mask of the active voxels, closed: dilated, then eroded in as many iterations by faces. Narrower gaps are filled.
+
+    Examples
+    --------
+    >>> mask = vdb.Mask.from_array(np.ones((5, 5, 5), bool))
+    >>> mask[:, :, 2] = False
+    >>> mask.count, vdb.labels.close(mask).count
+    (100, 109)
+    """
     return changed(Mask(mask), ("dilate", "erode"), iterations)
 
 
