@@ -49,10 +49,10 @@ class MeasureRow(NamedTuple):
     name: str
     voxels: int
     volume: float
-    centroid: "tuple[float, float, float]"
-    low: "tuple[int, int, int]"
-    high: "tuple[int, int, int]"
-    extent: "tuple[float, float, float]"
+    centroid: "tuple[float, ...]"
+    low: "tuple[int, ...]"
+    high: "tuple[int, ...]"
+    extent: "tuple[float, ...]"
     area: float
     neighbours: "dict[bool | int, float]"
 
@@ -451,7 +451,8 @@ def reaches(distance: float, spacing: Sequence[float]) -> np.ndarray:
         raise RangeError(f"the distance is 0 to {WIDEST} voxels, which are {WIDEST * min(spacing)}, not {distance!r}")
     x, y, z = ((np.arange(floor(distance / size) + 2) * size) ** 2 for size in spacing)
     # in the order of scipy's sums, so that a distance that is met exactly is met in both
-    return np.stack([(np.sqrt((at + y)[:, None] + z) <= distance).sum(axis=1) - 1 for at in x])
+    made = np.stack([(np.sqrt((at + y)[:, None] + z) <= distance).sum(axis=1) - 1 for at in x])
+    return made[made[:, 0] >= 0][:, made[0] >= 0]
 
 
 def grow_tiles(made: Mask, tiles: Cubes, reach: np.ndarray) -> None:
@@ -469,14 +470,15 @@ def grow_brick(source: Mask, made: Mask, low: np.ndarray, reach: np.ndarray, wid
     if not source.count_in((begin.tolist(), (past - 1).tolist())) or source.count_in((low.tolist(), (low + BRICK - 1).tolist())) == BRICK**3:
         return
     states = np.zeros(BRICK + 2 * wide, np.bool_)
-    source._read(tuple(begin.tolist()), None, states[tuple(map(slice, begin - low + wide, past - low + wide))], None)
+    x, y, z = begin.tolist()
+    source._read((x, y, z), None, states[tuple(map(slice, begin - low + wide, past - low + wide))], None)
     found = np.zeros((BRICK,) * 3, np.bool_)
     spread = np.zeros((*states.shape[:2], BRICK), np.bool_)
     middle = wide[2]
     for by in range(middle + 1):
         for at in {middle - by, middle + by}:
             spread |= states[:, :, at : at + BRICK]
-        for x, y in np.argwhere(reach == by):
-            for i, j in product({wide[0] - x, wide[0] + x}, {wide[1] - y, wide[1] + y}):
+        for step in np.argwhere(reach == by):
+            for i, j in product(*({at - it, at + it} for at, it in zip(wide, step))):
                 found |= spread[i : i + BRICK, j : j + BRICK]
     write_box(made._held, low.tolist(), found, found)

@@ -117,7 +117,8 @@ class Block:
                 yield Cubes(self.low[None].astype(np.int32), 4096, values[:1])
                 return
             whole = active & ~with_leaf
-            yield Cubes(corners[whole].astype(np.int32), 128, values[whole])
+            if whole.any():
+                yield Cubes(corners[whole].astype(np.int32), 128, values[whole])
             left -= np.count_nonzero(whole) * 128**3
             corners = corners[with_leaf]
         for low in corners if left else ():
