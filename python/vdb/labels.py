@@ -238,7 +238,8 @@ def components(grid: Walkable, connectivity: int = 6) -> Grid:
     """
     if connectivity not in ORDERS:
         raise RangeError(f"the connectivity is 6, 18 or 26, not {connectivity!r}")
-    items, nodes = Items(grid, grid.labels().values), Nodes(ORDERS[connectivity])
+    values = np.array([False, True]) if grid.kind == "bool" else grid.labels().values
+    items, nodes = Items(grid, values), Nodes(ORDERS[connectivity])
     nodes.find(items)
     numbers = nodes.numbers(items)
     made = Grid("i32", limit=grid.limit, metadata=images.kept(grid.metadata, np.dtype(np.int32)))  # type: ignore[attr-defined]
