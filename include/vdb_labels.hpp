@@ -102,7 +102,8 @@ inline std::vector<Tile> tiles_of(const Grid &grid, const std::unordered_set<Coo
             with_leaf[level].insert(floor(leaf, sides[level]));
     // if each cube with a leaf has cells that differ, and no other cube does, then the others are constant
     const Census census = grid.census();
-    const bool tight = census.leaf == leaves.size(), constant[] = {true, tight && census.lower == with_leaf[1].size(), tight && census.upper == with_leaf[2].size()};
+    const bool tight = census.leaf == leaves.size(), constant_128 = tight && census.lower == with_leaf[1].size();
+    const bool constant[] = {true, constant_128, tight && census.upper == with_leaf[2].size()};
     std::vector<Tile> made;
     vdb_grid *handle = const_cast<Grid &>(grid).handle();
     Coord at = {0, 0, 0};
@@ -119,13 +120,14 @@ inline std::vector<Tile> tiles_of(const Grid &grid, const std::unordered_set<Coo
             level--;
         at = cube(low, sides[level]).max;
         made.push_back({low, sides[level], value});
-        for (; level < 2 && cube(floor(low, sides[level + 1]), sides[level + 1]).max == at; level++) { // the last part of a cube: are all alike?
+        for (; level < 2; level++) { // the parts of a larger cube become one tile, if all are tiles of one value
+            const Box whole = cube(floor(low, sides[level + 1]), sides[level + 1]);
             const std::size_t count = level ? 32768 : 4096, first = made.size() - std::min(count, made.size());
             const auto alike = [&](const Tile &tile) { return tile.side == sides[level] && tile.value == value; };
-            if (made.size() < count || made[first].low != floor(low, sides[level + 1]) || !std::all_of(made.begin() + std::ptrdiff_t(first), made.end(), alike))
+            if (whole.max != at || made.size() < count || made[first].low != whole.min || !std::all_of(&made[first], made.data() + made.size(), alike))
                 break;
             made.resize(first);
-            made.push_back({floor(low, sides[level + 1]), sides[level + 1], value});
+            made.push_back({whole.min, sides[level + 1], value});
         }
     }
     return made;
@@ -505,17 +507,18 @@ inline Mask fill_holes(const Grid &grid)
     const std::optional<Box> bounds = made.bounds();
     if (!bounds)
         return made;
-    const auto lower = [](int32_t at) { return at == INT32_MIN ? at : (at - 1) & -128; };
-    const auto upper = [](int32_t at) { return at == INT32_MAX ? at : (at + 1) | 127; };
-    const Box box = {{lower(bounds->min.x), lower(bounds->min.y), lower(bounds->min.z)}, {upper(bounds->max.x), upper(bounds->max.y), upper(bounds->max.z)}};
+    const auto below = [](int32_t at) { return at == INT32_MIN ? at : (at - 1) & -128; };
+    const auto above = [](int32_t at) { return at == INT32_MAX ? at : (at + 1) | 127; };
+    const auto &[min, max] = *bounds;
+    const Box box = {{below(min.x), below(min.y), below(min.z)}, {above(max.x), above(max.y), above(max.z)}};
     Mask around(grid.limit());
     around.fill(box);
     around.subtract(made);
     const Grid numbers = components(around);
     std::vector<int64_t> holes;
     for (const Label &label : labels(numbers)) {
-        const auto low = detail::parts(label.bounds.min), high = detail::parts(label.bounds.max), first = detail::parts(box.min), last = detail::parts(box.max);
-        if (low[0] > first[0] && low[1] > first[1] && low[2] > first[2] && high[0] < last[0] && high[1] < last[1] && high[2] < last[2])
+        const auto &[low, high] = label.bounds;
+        if (low.x > box.min.x && low.y > box.min.y && low.z > box.min.z && high.x < box.max.x && high.y < box.max.y && high.z < box.max.z)
             holes.push_back(label.value);
     }
     made.unite(select(numbers, holes));

@@ -3,9 +3,10 @@
 
 Arrays of SIDE x SIDE x SIDE int32 labels are made grids, also from column order, saved to the folder, loaded and made arrays again, beside
 numpy.save and numpy.load with a copy: spheres of labels, and single voxels at random, as many as fit into a file. The same labels are reported and
-selected, beside a walk over leaves. Twelve organs, and cells that fill the array, are measured beside scipy on the dense array. Cubes of SIDE / 4 without background go into grids, beside a call of the C library. Booleans of the spheres go
-through OpenVDB's package for Python, if it is there. A sparse scene of 10 million voxels is loaded by the package and by `vdb --load`. With a SIDE
-of 512 it takes about 5 GB of memory.
+selected, beside a walk over leaves. Twelve organs, and cells that fill an array of half the SIDE, are measured beside scipy on the dense array.
+Cubes of SIDE / 4 without background go into grids, beside a call of the C library. Booleans of the spheres go through OpenVDB's package for
+Python, if it is there. A sparse scene of 10 million voxels is loaded by the package and by `vdb --load`. With a SIDE of 512 it takes about 5 GB
+of memory.
 """
 import collections
 import json
@@ -170,7 +171,8 @@ def measures_of(labels):
     for axis in range(3):
         one, other = (np.moveaxis(np.pad(labels, 1), axis, 0)[part] for part in (slice(1, None), slice(None, -1)))
         differ = one != other
-        codes, counts = np.unique(np.minimum(one[differ], other[differ]).astype(np.int64) * count + np.maximum(one[differ], other[differ]), return_counts=True)
+        least, most = np.minimum(one[differ], other[differ]).astype(np.int64), np.maximum(one[differ], other[differ])
+        codes, counts = np.unique(least * count + most, return_counts=True)
         areas += np.bincount(codes // count, counts, count) + np.bincount(codes % count, counts, count)
         pairs.append(codes[codes >= count])
     return voxels, boxes, middles, areas[1:], pairs

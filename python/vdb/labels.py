@@ -401,10 +401,11 @@ def fill_holes(mask: Grid) -> Mask:
     made = Mask(mask)
     if made.bounds:
         (low, high), side = made.bounds, SIDES[1]
-        ends = [max(-COORDINATE_SPAN, (at - 1) // side * side) for at in low], [min(COORDINATE_SPAN, (at + 1) // side * side + side) - 1 for at in high]
-        around = components(made.complement(ends))
+        begin = [max(-COORDINATE_SPAN, (at - 1) // side * side) for at in low]
+        end = [min(COORDINATE_SPAN, (at + 1) // side * side + side) - 1 for at in high]
+        around = components(made.complement((begin, end)))
         values, _, first, last = around.labels()
-        made.unite(around.select(values[(first > ends[0]).all(axis=1) & (last < ends[1]).all(axis=1)]), ignore_geometry=True)
+        made.unite(around.select(values[(first > begin).all(axis=1) & (last < end).all(axis=1)]), ignore_geometry=True)
     return made
 
 

@@ -8,7 +8,7 @@
 
 using namespace vdb;
 
-static bool throws_range(const Grid &grid)
+static bool rejects(const Grid &grid)
 {
     try {
         labels::margin(grid, 1e-300, {0, 1, 1});
@@ -25,8 +25,8 @@ int main(int, char **words)
     const labels::Spacing spacing = {std::atof(words[5]), std::atof(words[6]), std::atof(words[7])};
     for (const labels::Measure &it : labels::measure(grid, spacing)) {
         const Box &box = it.bounds;
-        std::printf("%" PRId64 " %" PRIu64 " %.17g %.17g %.17g %.17g %.17g", it.value, it.voxels, it.volume, it.area, it.centroid[0], it.centroid[1], it.centroid[2]);
-        std::printf(" %d %d %d %d %d %d", box.min.x, box.min.y, box.min.z, box.max.x, box.max.y, box.max.z);
+        std::printf("%" PRId64 " %" PRIu64 " %.17g %.17g", it.value, it.voxels, it.volume, it.area);
+        std::printf(" %.17g %.17g %.17g %d %d %d %d %d %d", it.centroid[0], it.centroid[1], it.centroid[2], box.min.x, box.min.y, box.min.z, box.max.x, box.max.y, box.max.z);
         for (const auto &[other, area] : it.neighbours)
             std::printf(" %" PRId64 " %.17g", other, area);
         std::printf("\n");
@@ -34,7 +34,7 @@ int main(int, char **words)
     uint64_t count = 0;
     for (const labels::LabelBox &it : labels::boxes(grid))
         count += grid.count(it.box);
-    if (count != grid.count() || labels::labels(grid).size() != labels::measure(grid).size() || !throws_range(grid))
+    if (count != grid.count() || labels::labels(grid).size() != labels::measure(grid).size() || !rejects(grid))
         return 1;
     Scene made;
     Grid dilated = grid.copy(), eroded = grid.copy();

@@ -321,8 +321,9 @@ class Cpp(unittest.TestCase):
             self.assertEqual(dict(zip(found[13::2], found[14::2])), {sum(pair) - value: area for pair, area in contacts.items() if value in pair})
         self.assertEqual(len(lines), len(among))
         wanted = {"six": labels.components(grid), "eighteen": labels.components(grid, 18), "more": labels.components(grid, 26)}
-        wanted.update(opened=labels.open(grid, 2), closed=labels.close(grid, 18), filled=labels.fill_holes(grid), margin=labels.margin(grid, 3.2, spacing))
-        wanted.update(chosen=grid.select([label, label + 1]), changed=grid.relabel({label: label + 1, label + 1: 77}), where=grid.where(grid == label))
+        wanted.update(opened=labels.open(grid, 2), closed=labels.close(grid, 18), filled=labels.fill_holes(grid))
+        wanted.update(margin=labels.margin(grid, 3.2, spacing), chosen=grid.select([label, label + 1]))
+        wanted.update(changed=grid.relabel({label: label + 1, label + 1: 77}), where=grid.where(grid == label))
         wanted.update(dilated=grid.copy(), eroded=grid.copy())
         wanted["dilated"].dilate_label(label, 2)
         wanted["eroded"].erode_label(label, 2)

@@ -189,7 +189,8 @@ class Page:
             "spacing": np.linalg.norm(affine[:, :3], axis=0).tolist(), "labels": len(self.labels.values),
             "listed": min(LISTED, len(self.labels.values)),
             "panes": [pane._asdict() for pane in panes_of(known)], "ends": [] if known is None else ends_of(known), "names": self.named(),
-            "unit": grid.metadata.get("image_units", "").partition(",")[0], "world": affine[:, :3].tolist(), "inverse": np.linalg.inv(affine[:, :3]).tolist(),
+            "unit": grid.metadata.get("image_units", "").partition(",")[0],
+            "world": affine[:, :3].tolist(), "inverse": np.linalg.inv(affine[:, :3]).tolist(),
             "mirrored": bool(np.linalg.det(affine[:, :3]) < 0),
             "arrays": [[it.name, f"{it.dtype.kind}{it.dtype.itemsize}", it.length] for it in arrays], "groups": self.groups,
         }  # fmt: skip
