@@ -21,13 +21,13 @@ import numpy as np
 
 from . import images
 from .arrays import fill_boxes, write_box
-from .blocks import FEW, OFFSETS, Cubes, Rows, numbered
+from .blocks import OFFSETS, Cubes, Rows, places
 from .edits import strips, write_cubes, write_leaves
 from .errors import RangeError
 from .formats.volume import package
 from .forms import COORDINATE_SPAN, SIDES
 from .grid import Grid
-from .labels_items import CHUNK, Items, meeting, parts_of, slab, steps_of, towards
+from .labels_items import Items, meeting, parts_of, slab, steps_of, towards
 from .mask import Mask
 from .reading import Walkable
 
@@ -241,7 +241,7 @@ def components(grid: Walkable, connectivity: int = 6) -> Grid:
     values = np.array([False, True]) if grid.kind == "bool" else grid.labels().values
     items, nodes = Items(grid, values), Nodes(ORDERS[connectivity])
     nodes.find(items)
-    numbers = nodes.numbers(items)
+    numbers = nodes.numbers()
     made = Grid("i32", limit=grid.limit, metadata=images.kept(grid.metadata, np.dtype(np.int32)))  # type: ignore[attr-defined]
     for part in items.chunks():
         found = numbers[nodes.leaves[part]]
@@ -257,26 +257,28 @@ class Nodes:
 
     def __init__(self, order: int) -> None:
         self.order = order
-        self.ndimage, self.sparse = (package(f"scipy.{name}", "python3-scipy") for name in ("ndimage", "sparse.csgraph"))
-        self.structure = self.ndimage.generate_binary_structure(3, order)
-        self.count = 1
+        self.sparse, self.csgraph = (package(name, "python3-scipy") for name in ("scipy.sparse", "scipy.sparse.csgraph"))
         none = np.zeros(0, np.int32)
         self.edges = [(none, none)]
 
     def find(self, items: Items) -> None:
         """Finds the nodes and the edges between them."""
-        self.leaves = np.zeros(items.cells.shape, np.int32)
+        self.leaves = np.empty(items.cells.shape, np.int32)
+        count, cells, corners = 1, [np.zeros(1, items.cells.dtype)], [np.zeros((1, 3), np.int32)]
         for part in items.chunks():
-            self.add_leaves(items.cells[part], self.leaves[part])
+            some = items.cells[part]
+            number = first_voxels(some, self.order)
+            root = (number == np.arange(512)) & (some != 0)
+            rank = np.cumsum(root, dtype=np.int32).reshape(root.shape) + np.int32(count - 1)
+            self.leaves[part] = np.take_along_axis(rank, number, axis=1) * (some != 0)
+            count += np.count_nonzero(root)
+            cells.append(some[root])
+            corners.append(places(items.lows[0][part], root))
         self.tiles = []
-        for cells in items.tiles:
-            self.tiles.append(np.arange(self.count, self.count + len(cells), dtype=np.int32))
-            self.count += len(cells)
-        self.cells = np.zeros(self.count, items.cells.dtype)
-        for part in items.chunks():
-            self.cells[self.leaves[part]] = items.cells[part]
-        for nodes, cells in zip(self.tiles, items.tiles):
-            self.cells[nodes] = cells
+        for tiles in items.tiles:
+            self.tiles.append(np.arange(count, count + len(tiles), dtype=np.int32))
+            count += len(tiles)
+        self.cells, self.corners = np.concatenate([*cells, *items.tiles]), np.concatenate([*corners, *items.lows[1:]])
         for contact in items.contacts(self.order):
             if contact.other == 0:
                 for pair in meeting(self.leaves, contact, self.order):
@@ -289,38 +291,6 @@ class Nodes:
                     near = slab(self.leaves, contact.first, towards(contact.step))
                     self.join(near, np.broadcast_to(second[:, None], near.shape))
 
-    def add_leaves(self, cells: np.ndarray, nodes: np.ndarray) -> None:
-        """Writes the nodes of leaves (n x 512): for the first few cells of each by scipy's labels of a strip of leaves, with a gap after
-        each, then for each voxel that is left a node of its own."""
-        left, which = cells.copy(), np.arange(len(cells))
-        for _ in range(FEW):
-            some = left.any(axis=1)
-            left, which = left[some], which[some]
-            if not len(which):
-                return
-            cell = left[np.arange(len(left)), (left != 0).argmax(axis=1)]
-            mask = left == cell[:, None]
-            if FEW * np.count_nonzero(mask) < np.count_nonzero(left):  # the leaves have many cells
-                break
-            strip = np.zeros((8, 8, len(left), 9), np.bool_)
-            strip[..., :8] = mask.reshape(-1, 8, 8, 8).transpose(1, 2, 0, 3)
-            found, count = self.ndimage.label(strip.reshape(8, 8, -1), self.structure)
-            found = found.reshape(strip.shape)[..., :8].transpose(2, 0, 1, 3).reshape(mask.shape)
-            nodes[which] += np.where(mask, found + (self.count - 1), 0).astype(np.int32)
-            self.count += count
-            left[mask] = 0
-        at = np.flatnonzero(left)
-        own = np.zeros(left.shape, np.int32)
-        own.ravel()[at] = np.arange(self.count, self.count + len(at))
-        nodes[which] += own
-        self.count += len(at)
-        cube, own = left.reshape(-1, 8, 8, 8), own.reshape(-1, 8, 8, 8)
-        for step in steps_of(self.order):
-            if step > (0, 0, 0):
-                first, past = ((slice(None), *(slice(max(0, -by), 8 - max(0, by)) for by in way)) for way in (step, [-by for by in step]))
-                same = (cube[first] == cube[past]) & (cube[first] != 0)
-                self.edges.append((own[first][same], own[past][same]))
-
     def join(self, one: np.ndarray, other: np.ndarray) -> None:
         """Adds edges between nodes of one cell."""
         same = (one > 0) & (self.cells[one] == self.cells[other])
@@ -329,26 +299,40 @@ class Nodes:
         new[1:] = (one[1:] != one[:-1]) | (other[1:] != other[:-1])
         self.edges.append((one[new], other[new]))
 
-    def numbers(self, items: Items) -> np.ndarray:
+    def numbers(self) -> np.ndarray:
         """Returns the number of the component of each node, 0 for node 0."""
         one, other = (np.concatenate(ends) for ends in zip(*self.edges))
-        coo = package("scipy.sparse", "python3-scipy").coo_matrix
-        graph = coo((np.ones(len(one), np.int8), (one, other)), shape=(self.count, self.count))
-        component = self.sparse.connected_components(graph, directed=False)[1]
-        firsts = np.zeros(self.count, np.int64)
-        flat = self.leaves.ravel()
-        for end in range(len(flat), 0, -512 * CHUNK):
-            part = np.arange(max(0, end - 512 * CHUNK), end)[::-1]
-            firsts[flat[part]] = part  # of equal indices the last one counts, which is the first voxel
-        leaf_nodes = self.count - sum(map(len, self.tiles))
-        at = np.concatenate([numbered(items.lows[0], firsts[1:leaf_nodes]), *items.lows[1:]])
-        order = np.lexsort(at.T[::-1])
-        _, index = np.unique(component[1:][order], return_index=True)
-        ranks = np.zeros(int(component.max()) + 1, np.int64)
-        ranks[component[1:][order][np.sort(index)]] = np.arange(1, len(index) + 1)
-        numbers = ranks[component]
-        numbers[0] = 0
-        return numbers
+        graph = self.sparse.coo_matrix((np.ones(len(one), np.int8), (one, other)), shape=(len(self.cells),) * 2)
+        component = self.csgraph.connected_components(graph, directed=False)[1]
+        order = 1 + np.lexsort(self.corners[1:].T[::-1])
+        _, index = np.unique(component[order], return_index=True)
+        ranks = np.zeros(len(index) + 1, np.int64)
+        ranks[component[order][np.sort(index)]] = np.arange(1, len(index) + 1)
+        ranks[component[0]] = 0
+        return ranks[component]
+
+
+def first_voxels(cells: np.ndarray, order: int) -> np.ndarray:
+    """Returns of each voxel of leaves (n x 512) the least number of a voxel of its component in the leaf. Numbers pass from voxel to voxel
+    of one cell, to and fro along each axis, until none falls."""
+    cube = np.ascontiguousarray(cells.T).reshape(8, 8, 8, -1)
+    number = np.empty(cube.shape, np.int16)
+    number[...] = np.arange(512, dtype=np.int16).reshape(8, 8, 8, 1)
+    moves = []
+    for step in steps_of(order):
+        if step > (0, 0, 0):
+            past, first = (tuple(slice(max(0, by), 8 + min(0, by)) for by in way) for way in (step, [-by for by in step]))
+            wall = (cube[first] != cube[past]) * np.int16(512)  # a number with this bit is greater than any without
+            pairs = [(number[first], number[past], wall)]
+            if sum(map(abs, step)) == 1:
+                pairs = [*zip(*(np.moveaxis(it, step.index(1), 0) for it in pairs[0]))]
+            moves += [*pairs, *((other, one, between) for one, other, between in reversed(pairs))]
+    before = np.zeros(0, np.int16)
+    while not np.array_equal(before, number):
+        before = number.copy()
+        for one, other, between in moves:
+            np.minimum(other, one | between, out=other)
+    return np.ascontiguousarray(number.reshape(512, -1).T)
 
 
 def changed(mask: Mask, names: Sequence[str], iterations: int) -> Mask:
