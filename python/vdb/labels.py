@@ -324,7 +324,7 @@ def first_voxels(cells: np.ndarray, order: int) -> np.ndarray:
             past, first = (tuple(slice(max(0, by), 8 + min(0, by)) for by in way) for way in (step, [-by for by in step]))
             wall = (cube[first] != cube[past]) * np.int16(512)  # a number with this bit is greater than any without
             pairs = [(number[first], number[past], wall)]
-            if sum(map(abs, step)) == 1:
+            if step.count(0) == 2:
                 pairs = [*zip(*(np.moveaxis(it, step.index(1), 0) for it in pairs[0]))]
             moves += [*pairs, *((other, one, between) for one, other, between in reversed(pairs))]
     before = np.zeros(0, np.int16)

@@ -23,7 +23,7 @@ def parts_of(grid: Walkable) -> Iterator[Part]:
 
 def steps_of(order: int) -> "list[Step]":
     """Returns the steps to the blocks around one that change at most `order` of the coordinates, in rising order."""
-    return [step for step in product((-1, 0, 1), repeat=3) if 0 < sum(map(abs, step)) <= order]
+    return [(x, y, z) for x, y, z in product((-1, 0, 1), repeat=3) if 0 < abs(x) + abs(y) + abs(z) <= order]
 
 
 class Contact(NamedTuple):
@@ -134,7 +134,7 @@ def meeting(cells: np.ndarray, contact: Contact, order: int) -> "Iterator[tuple[
     """Yields the cells (n x m) of voxels of two leaves that touch, by steps that change at most `order` coordinates."""
     back = [-it for it in contact.step]
     for shift in product(*((0,) if it else (-1, 0, 1) for it in contact.step)):
-        if sum(map(abs, contact.step)) + sum(map(abs, shift)) <= order:
+        if 6 - contact.step.count(0) - shift.count(0) <= order:
             ends = zip(shift, towards(contact.step), towards((back[0], back[1], back[2])))
             one, other = zip(*((slice(max(0, -by), 8 - max(0, by)), slice(max(0, by), 8 + min(0, by))) if by else (a, b) for by, a, b in ends))
             yield slab(cells, contact.first, one), slab(cells, contact.second, other)

@@ -112,7 +112,7 @@ class Block:
         leaves, corners = groups(self.origins, 128), self.corners(box)
         if constant[128]:
             values, active = cells(self.held, corners)
-            with_leaf = np.array([tuple(low) in leaves for low in corners.tolist()])
+            with_leaf = np.array([tuple(low.tolist()) in leaves for low in corners])
             if not leaves and len(corners) == len(PARTS[4096][1]) and active.all() and (values == values[0]).all():
                 yield Cubes(self.low[None].astype(np.int32), 4096, values[:1])
                 return

@@ -33,8 +33,8 @@ def add_arguments(parser: argparse.ArgumentParser) -> None:
 def run(arguments: argparse.Namespace) -> None:
     grid, names = grid_of(loaded(arguments.file), arguments.file, arguments.grid), label_names.of(arguments.file, arguments.grid)
     if not arguments.measure:
-        for row in grid.labels().rows(names):
-            print(text_of(row.value), row.voxels, numbers_of((row.low, row.high)), *row.name.split())
+        for label in grid.labels().rows(names):
+            print(text_of(label.value), label.voxels, numbers_of((label.low, label.high)), *label.name.split())
         return
     with about(arguments.file):
         rows = [*measure(grid).rows(names)]
