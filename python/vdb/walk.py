@@ -120,8 +120,8 @@ class Block:
             if whole.any():
                 yield Cubes(corners[whole].astype(np.int32), 128, values[whole])
             left -= np.count_nonzero(whole) * 128**3
-            corners = corners[with_leaf]
-        for low in corners if left else ():
+            corners = corners[with_leaf if left else slice(0, 0)]
+        for low in corners:
             part = leaves.get(tuple(low.tolist()), slice(0, 0))
             found = count_of(self.held, low, 128) - int(self.counts[part].sum())
             left -= found

@@ -86,6 +86,14 @@ def expected(values, active, low, spacing):
     return among, counts, means, areas[1:], contacts
 
 
+def neighbours(contacts):
+    """Of each label the areas of contact with others, by those of pairs."""
+    near = {}
+    for (one, other), area in contacts.items():
+        near.setdefault(one, {})[other] = near.setdefault(other, {})[one] = area
+    return near
+
+
 def components_of(values, active, order):
     """Components by scipy, label by label."""
     made, count = np.zeros(values.shape, np.int64), 0
@@ -119,13 +127,11 @@ class Measured(unittest.TestCase):
         np.testing.assert_array_equal(found.area, areas)
         self.assertEqual(dict(zip(map(tuple, found.pairs.tolist()), found.contacts.tolist())), contacts)
         np.testing.assert_array_equal(found.extent, (found.high.astype(np.int64) - found.low + 1) * spacing)
-        for value, column, row in zip(among.tolist(), range(len(among)), found.rows()):
-            least, most = (np.argwhere(active & (values == value)).min(axis=0) + low, np.argwhere(active & (values == value)).max(axis=0) + low) if (
-                len(among) < 50
-            ) else (found.low[column], found.high[column])  # fmt: skip
-            self.assertEqual((row.value, row.low, row.high), (value, tuple(least.tolist()), tuple(most.tolist())))
-            wanted = {sum(pair) - value: area for pair, area in contacts.items() if value in pair}
-            self.assertEqual(row.neighbours, wanted)
+        near = neighbours(contacts)
+        numbered = np.where(active, np.searchsorted(among, values) + 1, 0)
+        for value, part, row in zip(among.tolist(), ndimage.find_objects(numbered), found.rows()):
+            ends = tuple(zip(*((at + it.start, at + it.stop - 1) for at, it in zip(low, part))))
+            self.assertEqual((row.value, (row.low, row.high), row.neighbours), (value, ends, near.get(value, {})))
 
     def test_samples(self):
         for name, values, active, low in samples():
@@ -318,7 +324,7 @@ class Cpp(unittest.TestCase):
             found = [float(word) for word in line.split()]
             self.assertEqual(found[:7], [value, count, count * 1.125, area, *means[value]])
             self.assertEqual(found[7:13], [*row.low, *row.high])
-            self.assertEqual(dict(zip(found[13::2], found[14::2])), {sum(pair) - value: area for pair, area in contacts.items() if value in pair})
+            self.assertEqual(dict(zip(found[13::2], found[14::2])), neighbours(contacts).get(value, {}))
         self.assertEqual(len(lines), len(among))
         wanted = {"six": labels.components(grid), "eighteen": labels.components(grid, 18), "more": labels.components(grid, 26)}
         wanted.update(opened=labels.open(grid, 2), closed=labels.close(grid, 18), filled=labels.fill_holes(grid))
