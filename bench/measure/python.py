@@ -16,11 +16,11 @@ LIMIT = 3600
 
 
 def with_numpy():
-    """Returns an interpreter that has NumPy."""
+    """Returns an interpreter that has NumPy and scipy."""
     for python in (sys.executable, "/usr/bin/python3"):
-        if not subprocess.run([python, "-c", "import numpy"], capture_output=True).returncode:
+        if not subprocess.run([python, "-c", "import numpy, scipy"], capture_output=True).returncode:
             return python
-    raise Failed("no interpreter has NumPy: install python3-numpy")
+    raise Failed("no interpreter has NumPy and scipy: install python3-numpy and python3-scipy")
 
 
 def printed(program, *numbers):
@@ -52,6 +52,7 @@ def measure(runs, quick):
         of("engine", "arrays and the engine", "The same by the engine.", "vdb", "NumPy"),
         of("blocks", "dense blocks", "`from_array`, and the calls of `vdb_grid_write_box` alone.", "from_array", "C", "ns per voxel"),
         of("labels", "labels", "Calls on the grids of these labels, and walks over their leaves.", "vdb", "leaves()", raw="leaves as arrays"),
+        of("measures", "labels measured", f"`vdb.labels` on cubes of {side // 2} voxels along each axis, and scipy on the dense array.", "vdb", "scipy"),
         of("booleans", "booleans", "The same spheres as booleans. Its copies of arrays use all threads.", "vdb", "pyopenvdb"),
         of("volumes", "volumes past memory", "Labels of cells in a zarr store on two threads, once. Figures of dask come second.", "vdb.chunks", "dask with SciPy"),
         of("scene", "a scene", "`vdb.scenefile.load` beside a run of `vdb --load`.", "vdb.scenefile", "vdb --load"),

@@ -12,7 +12,7 @@
 ImportError. `vdb.scenefile` reads and writes scene files without it, by classes of the same names, whose voxels don't change.
 Coordinates are voxels; array axes are x, y, z. All errors are `VdbError`.
 """
-from . import errors, formats, label_names, scenefile
+from . import errors, formats, label_names, labels, scenefile
 from .blocks import Boxes, Labels
 from .errors import *  # noqa: F401,F403
 from .forms import Leaf, Metadata
@@ -25,5 +25,5 @@ from .view import View
 __version__ = "1.1.0"
 __all__ = [
     "load", "loads", "Scene", "Grid", "Mask", "View", "ImageView", "Census", "Boxes", "Labels", "Leaf", "Metadata", "formats", "label_names",
-    "scenefile", "__version__", *errors.__all__,
+    "labels", "scenefile", "__version__", *errors.__all__,
 ]  # fmt: skip

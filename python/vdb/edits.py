@@ -7,7 +7,7 @@ from ctypes import byref
 import numpy as np
 
 from .arrays import box_of, write_boxes
-from .blocks import FEW, Cubes, ranks
+from .blocks import FEW, Boxes, Cubes, ranks
 from .library import Held, Strides
 
 
@@ -34,9 +34,18 @@ def strip_of(rows: np.ndarray, dtype: np.dtype) -> np.ndarray:
 
 def write_cubes(held: Held, cubes: Cubes) -> None:
     """Sets the voxels of cubes to their values and activates them."""
-    high = cubes.low + np.int32(cubes.side - 1)
-    for low, past, value in zip(cubes.low.tolist(), high.tolist(), cubes.values.tolist()):
+    for low, past, value in zip(*(column.tolist() for column in strips(cubes))):
         held.call("fill", byref(box_of(low, past)), value, 1)
+
+
+def strips(cubes: Cubes) -> Boxes:
+    """Returns cubes as boxes: those that follow one another along z and have one value are one box."""
+    low, side, values = cubes
+    begins = np.ones(len(low), np.bool_)
+    begins[1:] = (low[1:] - low[:-1] != (0, 0, side)).any(axis=1) | (values[1:] != values[:-1])
+    ends = np.ones(len(low), np.bool_)
+    ends[:-1] = begins[1:]
+    return Boxes(low[begins], low[ends] + np.int32(side - 1), values[begins])
 
 
 def is_one_of(values: np.ndarray, wanted: np.ndarray) -> np.ndarray:

@@ -295,6 +295,19 @@ class Grid(Stored):
             grown.call_with("unite", region)
             self._held.call_with("replace", grown)
 
+    def erode_label(self, value: Value, iterations: int = 1) -> None:
+        """Shrinks one label, in 1 to 16 iterations: in each, every active voxel of the label with a face neighbour that is none becomes the
+        background, inactive. Voxels of other values stay."""
+        count, label = _iterations(iterations), self._kind.check(value)
+        with self._held.lock:
+            lost, emptied = self.select(label), new_grid(self._kind, self.background, self.limit)
+            core = lost.copy()
+            core.erode(count)
+            lost -= core
+            emptied.call_with("unite", lost._held)
+            self._held.call_with("replace", emptied)
+            self._held.call_with("subtract", lost._held)
+
     def unite(self, other: "Grid", *, ignore_geometry: bool = False) -> None:
         """Activates each voxel that is active in the other grid. No value changes, and the types may differ."""
         self._combine("unite", other, ignore_geometry)

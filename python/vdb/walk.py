@@ -109,20 +109,26 @@ class Block:
         if constant[4096] and not len(self.origins):
             yield Cubes(self.low[None].astype(np.int32), 4096, cells(self.held, self.low[None])[0])
             return
-        leaves, whole = groups(self.origins, 128), []
-        for low in self.corners(box):
+        leaves, corners = groups(self.origins, 128), self.corners(box)
+        if constant[128]:
+            values, active = cells(self.held, corners)
+            with_leaf = np.array([tuple(low.tolist()) in leaves for low in corners])
+            if not leaves and len(corners) == len(PARTS[4096][1]) and active.all() and (values == values[0]).all():
+                yield Cubes(self.low[None].astype(np.int32), 4096, values[:1])
+                return
+            whole = active & ~with_leaf
+            if whole.any():
+                yield Cubes(corners[whole].astype(np.int32), 128, values[whole])
+            left -= np.count_nonzero(whole) * 128**3
+            corners = corners[with_leaf if left else slice(0, 0)]
+        for low in corners:
             part = leaves.get(tuple(low.tolist()), slice(0, 0))
             found = count_of(self.held, low, 128) - int(self.counts[part].sum())
             left -= found
-            if found and constant[128] and part.stop == 0:
-                whole.append(low)
-            elif found:
+            if found:
                 yield from self.small(low, self.origins[part])
             if left == 0:
                 break
-        if whole:
-            lows = np.array(whole)
-            yield Cubes(lows.astype(np.int32), 128, cells(self.held, lows)[0])
 
     def corners(self, box: Box) -> np.ndarray:
         """Returns the least corners of the cubes of 128 voxels that meet a box."""

@@ -182,7 +182,7 @@ class Headers(unittest.TestCase):
         for compiler, standard in LANGUAGES:
             if not shutil.which(compiler):
                 continue
-            for name, use in (("vdb.h", "vdb_grid grid = VDB_GRID_INIT; return grid.at != 0;"), ("vdb.hpp", "return !vdb_message(0);"), ("vdb_files.hpp", "return 0;")):
+            for name, use in (("vdb.h", "vdb_grid grid = VDB_GRID_INIT; return grid.at != 0;"), ("vdb.hpp", "return !vdb_message(0);"), ("vdb_files.hpp", "return 0;"), ("vdb_labels.hpp", "return 0;")):
                 if name == "vdb.h" or standard != "c99":
                     with self.subTest(compiler=compiler, standard=standard, header=name):
                         source = work() / f"header.{'c' if standard == 'c99' else 'cpp'}"

@@ -42,6 +42,21 @@ class CommandLine(CommandCase):
         self.run_it("convert", "a.vdbs", "out.npy", "--grid", "lab", "--fill", "8")
         np.testing.assert_array_equal(np.load(self.folder / "out.npy"), np.where(self.values == 0, 8, self.values))
 
+    def test_measures(self):
+        """A box of 3 x 2 x 6 voxels and one voxel, then two labels that touch, in voxels of 0.5 x 1 x 2."""
+        self.made()
+        lines = ["-2 1 1 6 2 7 4097 1 1 1 2 7 4097 2 7 4097 -", "3 36 36 72 -2 2.5 4093.5 3 2 6 -3 2 4091 -1 3 4096 -"]
+        self.assertEqual(self.run_it("labels", "a.vdbs", "lab", "--measure").splitlines(), lines)
+        affine = {"affine_x": "0.5,0,0,0", "affine_y": "0,0,2,0", "affine_z": "0,1,0,0"}
+        scenefile.Scene({"two": scenefile.Grid.from_array(np.array([[[1], [1], [4]]]), metadata=affine)}).save(self.folder / "b.vdbs")
+        self.folder.joinpath("b.tsv").write_text("index\tname\n4\tleft ear\n")
+        self.assertEqual(self.run_it("labels", "b.vdbs", "two", "--measure").splitlines()[1], "4 1 1 7 0 2 0 0.5 1 2 0 2 0 0 2 0 1:1 left ear")
+        told = self.run_it("labels", "b.vdbs", "two", "--measure", "csv").splitlines()
+        self.assertEqual(told[0], "value,voxels,volume,area,x,y,z,dx,dy,dz,x0,y0,z0,x1,y1,z1,neighbours,name")
+        self.assertEqual(told[2], "4,1,1.0,7.0,0.0,2.0,0.0,0.5,1.0,2.0,0,2,0,0,2,0,1:1,left ear")
+        rows = json.loads(self.run_it("labels", "b.vdbs", "two", "--measure", "json"))
+        self.assertEqual([(row["value"], row["volume"], row["neighbours"], row["name"]) for row in rows], [(1, 2, {"4": 1}, ""), (4, 1, {"1": 1}, "left ear")])
+
     def test_info(self):
         self.made("--background", "-1", "--limit", "7")
         told = json.loads(self.run_it("info", "a.vdbs", "--json"))

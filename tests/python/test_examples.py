@@ -25,7 +25,7 @@ class Examples(unittest.TestCase):
     def test_each_public_class_and_function_has_examples_that_hold(self):
         """They run in an empty folder, and none is skipped."""
         before = os.getcwd()
-        for module in (vdb, scenefile, formats, chunks):
+        for module in (vdb, scenefile, formats, chunks, vdb.labels):
             for name, it in public(module).items():
                 with self.subTest(f"{module.__name__}.{name}"), tempfile.TemporaryDirectory() as folder:
                     self.assertIn("\n\nExamples\n--------\n>>> ", inspect.getdoc(it))

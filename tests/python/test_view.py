@@ -369,6 +369,8 @@ class Written(CommandCase):
         self.assertEqual(about["spacing"], [2, 1, 0.5])
         self.assertEqual(about["affine"], [[2, 0, 0, 5], [0, -1, 0, 0], [0, 0, 0.5, 0]])
         self.assertEqual([group["number"] for group in about["groups"]], [1, 2, 3])
+        self.assertEqual([group["volume"] for group in about["groups"]], [group["count"] for group in about["groups"]])  # a voxel of 2 x 1 x 0.5
+        self.assertTrue(all(group["area"] >= 2 * (2 + 1 + 0.5) for group in about["groups"]))
         self.run_it("view", "a.vdbs", "flag", "flag.html")
         self.assertEqual((self.about("flag.html")["kind"], self.about("flag.html")["labels"]), ("bool", 1))
 

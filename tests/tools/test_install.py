@@ -39,7 +39,7 @@ SCRIPT = "grid a i32 0\nfill a 0 0 0 9 9 9 5 on\ncount a all\n"
 
 #: The files of the library, as a user of C and C++ expects them.
 LIBRARY = {
-    "usr/include/vdb.h", "usr/include/vdb.hpp", "usr/include/vdb_files.hpp",
+    "usr/include/vdb.h", "usr/include/vdb.hpp", "usr/include/vdb_files.hpp", "usr/include/vdb_labels.hpp",
     *(f"{LIBRARIES}/{it}" for it in ("libvdb.a", "libvdb.so", "libvdb.so.1", f"libvdb.so.{VERSION}", "pkgconfig/libvdb.pc")),
     *(f"{LIBRARIES}/cmake/vdb/{it}" for it in ("vdb-config.cmake", "vdb-config-version.cmake")),
 }  # fmt: skip

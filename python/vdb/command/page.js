@@ -91,10 +91,12 @@ function move(to) {
   draw();
 }
 
-/** Marks the row of a label, and scrolls the list to it. */
+/** Marks the row of a label, scrolls the list to it, and shows its measures. */
 function mark(number) {
   if (picked) picked.row.classList.remove("picked");
   picked = about.groups.find((group) => group.number === number);
+  const in_unit = (number, power) => text(number) + (about.unit && ` ${about.unit}${power}`);
+  $("#measures").textContent = picked ? `${in_unit(picked.volume, "\u00b3")}, surface ${in_unit(picked.area, "\u00b2")}` : "";
   if (!picked) return;
   picked.row.classList.add("picked");
   picked.row.scrollIntoView({ block: "nearest" });

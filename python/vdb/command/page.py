@@ -17,6 +17,7 @@ from ..errors import RangeError
 from ..forms import COORDINATE_SPAN, SIDES
 from ..images import ROWS
 from ..label_names import Names, coloured
+from ..labels import measure
 from ..scenefile import Grid, picture
 from ..scenefile.faces import Faces, Show, chunked, faces, numbers_of
 from ..scenefile.mesh import merged
@@ -93,7 +94,7 @@ class Page:
             if voxels > most:
                 eighth = "" if most == most_voxels else " / 8"
                 raise RangeError(f"{what} of {name} and its margin have {voxels:,} voxels, more than max_voxels{eighth} = {most:,}")
-        self.labels = grid.labels()
+        self.labels, self.measures = grid.labels(), measure(grid)
         self.is_many = len(self.labels.values) > LISTED
         self.cells = Cells(self.tree, self.labels.values)
         self.faces, self.groups = self.grouped(
@@ -116,7 +117,8 @@ class Page:
         starts = np.searchsorted(group[found.label], np.arange(len(listed) + 2)).tolist()
         middle = ((low.astype(np.int64) + high) // 2).tolist()
         groups = [
-            {"number": label + 1, "count": int(counts[label]), "faces": [first, past - first], "middle": middle[label]}
+            {"number": label + 1, "count": int(counts[label]), "faces": [first, past - first], "middle": middle[label],
+             "volume": float(self.measures.volume[label]), "area": float(self.measures.area[label])}
             for label, first, past in zip(listed.tolist(), starts, starts[1:])
         ]
         if self.is_many:
@@ -187,6 +189,7 @@ class Page:
             "spacing": np.linalg.norm(affine[:, :3], axis=0).tolist(), "labels": len(self.labels.values),
             "listed": min(LISTED, len(self.labels.values)),
             "panes": [pane._asdict() for pane in panes_of(known)], "ends": [] if known is None else ends_of(known), "names": self.named(),
+            "unit": grid.metadata.get("image_units", "").partition(",")[0],
             "world": affine[:, :3].tolist(), "inverse": np.linalg.inv(affine[:, :3]).tolist(),
             "mirrored": bool(np.linalg.det(affine[:, :3]) < 0),
             "arrays": [[it.name, f"{it.dtype.kind}{it.dtype.itemsize}", it.length] for it in arrays], "groups": self.groups,

@@ -1,0 +1,470 @@
+# SPDX-License-Identifier: Apache-2.0
+"""Labels measured: sizes, surfaces and contacts, components, and masks opened, closed, filled or grown by millimetres.
+
+    from vdb import labels
+    for row in labels.measure(organs).rows():
+        print(row.value, row.volume, row.centroid, row.area, row.neighbours)
+    parts = labels.components(organs.select(3), connectivity=26)
+    shell = labels.margin(organs.select(3), 7.5) - organs
+
+No call makes a dense array of the grid: a leaf is 512 voxels, and a tile is one item, however large. Results equal those of scipy.ndimage on the
+dense array. `Grid` itself has `labels`, `select`, `relabel`, `where`, `boxes`, `dilate_label` and `erode_label`. Distances are in the unit
+of `spacing`, three sizes of a voxel, which are those of the grid's affine unless given, in most images millimetres.
+"""
+from __future__ import annotations
+
+from itertools import product
+from math import floor, prod
+from typing import TYPE_CHECKING, Iterator, Mapping, NamedTuple, Sequence
+
+import numpy as np
+
+from . import images
+from .arrays import fill_boxes, write_box
+from .blocks import OFFSETS, Cubes, Rows, places
+from .edits import strips, write_cubes, write_leaves
+from .errors import RangeError
+from .formats.volume import package
+from .forms import COORDINATE_SPAN, SIDES
+from .grid import Grid
+from .labels_items import Items, meeting, parts_of, slab, steps_of, towards
+from .mask import Mask
+from .reading import Walkable
+
+if TYPE_CHECKING:
+    from .label_names import Label
+
+__all__ = ["Measures", "close", "components", "fill_holes", "margin", "measure", "open"]
+
+#: The connectivities: how many coordinates a step to a neighbour changes.
+ORDERS = {6: 1, 18: 2, 26: 3}
+#: The side in voxels of the boxes in which margins are found, and the widest margin.
+BRICK, WIDEST = 64, 256
+
+
+class MeasureRow(NamedTuple):
+    """What `measure` finds of one label, with its name. `neighbours` has the area of contact with each label that it touches."""
+
+    value: "bool | int"
+    name: str
+    voxels: int
+    volume: float
+    centroid: "tuple[float, ...]"
+    low: "tuple[int, ...]"
+    high: "tuple[int, ...]"
+    extent: "tuple[float, ...]"
+    area: float
+    neighbours: "dict[bool | int, float]"
+
+
+class Measures(NamedTuple):
+    """Measures of labels, which rise in `values` (n): how many voxels have each (int64) and their volume, the mean of their coordinates in
+    voxels (n x 3), the least and the greatest corner of their bounding box (n x 3, int32) and its sides, and the area of the faces between
+    them and all others. `pairs` (m x 2) are the labels that touch, in rising order, and `contacts` (m) the areas of the faces between them.
+
+    Examples
+    --------
+    >>> found = vdb.labels.measure(vdb.Grid.from_array(np.array([[[5, 5, 0, 2], [5, 2, 2, 2]]])), spacing=(1, 1, 2))
+    >>> found.values.tolist(), found.voxels.tolist(), found.volume.tolist(), found.area.tolist()
+    ([2, 5], [4, 3], [8.0, 6.0], [32.0, 24.0])
+    >>> found.centroid[1].tolist(), found.extent[1].tolist(), found.pairs.tolist(), found.contacts.tolist()
+    ([0.0, 0.3333333333333333, 0.3333333333333333], [1.0, 2.0, 4.0], [[2, 5]], [3.0])
+    """
+
+    values: np.ndarray
+    voxels: np.ndarray
+    volume: np.ndarray
+    centroid: np.ndarray
+    low: np.ndarray
+    high: np.ndarray
+    extent: np.ndarray
+    area: np.ndarray
+    pairs: np.ndarray
+    contacts: np.ndarray
+
+    def rows(self, names: "Mapping[int, Label]" = {}) -> "Iterator[MeasureRow]":
+        """Yields a row for each label, with the name that `vdb.label_names` has for it, or an empty one."""
+        near: "dict[bool | int, dict[bool | int, float]]" = {value: {} for value in self.values.tolist()}
+        for (one, other), area in zip(self.pairs.tolist(), self.contacts.tolist()):
+            near[one][other] = near[other][one] = area
+        columns = (column.tolist() for column in self[1:8])
+        for value, voxels, volume, centroid, low, high, extent, area in zip(self.values.tolist(), *columns):
+            name = names[value].name if value in names else ""
+            yield MeasureRow(value, name, voxels, volume, tuple(centroid), tuple(low), tuple(high), tuple(extent), area, near[value])
+
+
+def spacing_of(grid: Walkable, spacing: "Sequence[float] | None") -> "list[float]":
+    """Returns three sizes of a voxel: those given, else those of the affine of the grid. Raises RangeError if they aren't three positive
+    numbers."""
+    sizes = np.linalg.norm(images.affine_of(grid.metadata)[:, :3], axis=0) if spacing is None else np.asarray(spacing, np.float64)
+    if sizes.shape != (3,) or not (np.isfinite(sizes) & (sizes > 0)).all():
+        raise RangeError(f"the spacing is three positive numbers, not {spacing!r}")
+    return sizes.tolist()
+
+
+class Faces:
+    """Counts of the faces between voxels of two cells along each axis. Cells are below `span`."""
+
+    def __init__(self, span: int) -> None:
+        self.span = span
+        none = np.zeros(0, np.int64)
+        self.found = [[(none, none)] for _ in range(3)]
+        #: Of each cell the sides of tiles, in faces, without those that touch an item.
+        self.bare = np.zeros((3, span), np.int64)
+
+    def add(self, axis: int, one: np.ndarray, other: np.ndarray, each: int = 1) -> None:
+        """Adds contacts of `each` faces between cells of two arrays of the same shape. Contacts of a cell with itself aren't counted."""
+        differ = one != other
+        one, other = one[differ].astype(np.int64), other[differ].astype(np.int64)
+        self.found[axis].append(tallied(np.minimum(one, other) * self.span + np.maximum(one, other), self.span**2, each))
+
+    def areas(self, spacing: Sequence[float]) -> "tuple[np.ndarray, np.ndarray, np.ndarray]":
+        """Returns the areas of all cells but 0, the pairs of these that touch (m x 2), and their areas of contact."""
+        total, areas = prod(spacing), np.zeros(self.span)
+        codes, sizes = [], []
+        for axis in range(3):
+            face, counts = total / spacing[axis], self.bare[axis].astype(np.float64)
+            code, count = (np.concatenate(column) for column in zip(*self.found[axis]))
+            code, which = np.unique(code, return_inverse=True)
+            sums = np.bincount(which, count, len(code)).astype(np.float64)
+            for cell in divmod(code, self.span):
+                counts += np.bincount(cell, sums, self.span)
+            areas += counts * face
+            codes.append(code)
+            sizes.append(sums * face)
+        code, which = np.unique(np.concatenate(codes), return_inverse=True)
+        area = np.bincount(which, np.concatenate(sizes), len(code)).astype(np.float64)
+        touch = code >= self.span
+        return areas[1:], np.stack(divmod(code[touch], self.span), axis=1), area[touch]
+
+
+def tallied(codes: np.ndarray, span: int, each: int) -> "tuple[np.ndarray, np.ndarray]":
+    """Returns the codes below a span that occur, each once and rising, and `each` times how often."""
+    if span <= 4 * len(codes) + 4096:
+        counts = np.bincount(codes, minlength=1)
+        found = np.flatnonzero(counts)
+        return found, counts[found] * each
+    found, counts = np.unique(codes, return_counts=True)
+    return found, counts * each
+
+
+def measure(grid: Walkable, spacing: "Sequence[float] | None" = None) -> Measures:
+    """Returns the measures of each label of a grid, a view, or a grid of a scene file. Sums are exact; what is divided or multiplied by
+    the spacing is a float. Raises RangeError for a spacing that isn't three positive numbers.
+
+    Examples
+    --------
+    >>> organ = vdb.Grid.from_array(np.full((2, 3, 4), 7))
+    >>> [(row.value, row.volume, row.centroid) for row in vdb.labels.measure(organ, spacing=(1, 1, 2)).rows()]
+    [(7, 48.0, (0.5, 1.0, 1.5))]
+    """
+    sizes = spacing_of(grid, spacing)
+    values, voxels, low, high = grid.labels()
+    sides = (high.astype(np.int64) - low + 1) * sizes
+    items = Items(grid, values)
+    faces = Faces(len(values) + 1)
+    inside_faces(items, faces)
+    outside_faces(items, faces)
+    area, pairs, contacts = faces.areas(sizes)
+    return Measures(values, voxels, voxels * prod(sizes), centroids(items, voxels, low), low, high, sides, area, values[pairs - 1], contacts)
+
+
+def centroids(items: Items, voxels: np.ndarray, low: np.ndarray) -> np.ndarray:
+    """Returns the mean coordinates (n x 3) of labels, of which these many voxels and least corners are known."""
+    if not len(voxels):
+        return np.zeros((0, 3))
+    origin = low.min(axis=0).astype(np.int64)
+    widest = max(int((at.max(axis=0) - origin).max()) for at in items.lows if len(at)) + SIDES[-1]
+    # twice the sum of coordinates past the origin, since the middle of a tile lies between voxels; Python's integers if 64 bits are too few
+    sums = np.zeros((3, len(voxels) + 1), np.int64 if 2 * widest * int(voxels.sum()) < 2**63 else object)
+    for part in items.chunks():
+        cells, offsets = items.cells[part].ravel(), items.lows[0][part].astype(np.int64) - origin
+        for axis in range(3):
+            at = offsets[:, axis, None] + OFFSETS[:, axis]
+            sums[axis] += 2 * np.bincount(cells, at.ravel(), len(voxels) + 1).astype(np.int64)
+    for side, corners, cells in zip(SIDES, items.lows[1:], items.tiles):
+        for axis in range(3):
+            at = 2 * (corners[:, axis].astype(np.int64) - origin[axis]) + side - 1
+            np.add.at(sums[axis], cells, at.astype(sums.dtype) * side**3)
+    twice = 2 * voxels.astype(object)  # the quotient of Python's integers is the nearest float
+    return ((sums[:, 1:] + origin[:, None].astype(object) * twice) / twice).astype(np.float64).T
+
+
+def inside_faces(items: Items, faces: Faces) -> None:
+    """Counts the faces between two voxels of a leaf."""
+    for part in items.chunks():
+        cells = items.cells[part].reshape(-1, 8, 8, 8)
+        for axis in range(3):
+            first, past = ([slice(None)] * (axis + 1) + [ends] for ends in (slice(None, -1), slice(1, None)))
+            faces.add(axis, cells[tuple(first)], cells[tuple(past)])
+
+
+def outside_faces(items: Items, faces: Faces) -> None:
+    """Counts the faces of leaves and tiles with what is next to them."""
+    for side, cells in zip(SIDES, items.tiles):
+        faces.bare += 2 * side**2 * np.bincount(cells, minlength=faces.span)
+    for contact in items.contacts(1):
+        step, one, first, other, second = contact
+        axis = [abs(it) for it in step].index(1)
+        if one:  # two tiles
+            assert other is not None
+            pair, each = (items.tiles[one - 1][first], items.tiles[other - 1][second]), SIDES[one - 1] ** 2
+            faces.add(axis, *pair, each)
+            for cells in pair:
+                faces.bare[axis] -= each * np.bincount(cells, minlength=faces.span)
+        elif other == 0:
+            for pair in meeting(items.cells, contact, 1):
+                faces.add(axis, *pair)
+        else:
+            near = slab(items.cells, first, towards(step))
+            cells = np.zeros(len(first), items.cells.dtype) if other is None else items.tiles[other - 1][second]
+            faces.add(axis, near, np.repeat(cells, 64).reshape(near.shape))
+            if other is not None:
+                faces.bare[axis] -= 64 * np.bincount(cells, minlength=faces.span)
+
+
+def components(grid: Walkable, connectivity: int = 6) -> Grid:
+    """Returns a grid of component numbers from 1 on, in the order of each component's first voxel by x, then y, then z. Active voxels of one
+    value are in one component if a path of voxels of that value joins them, by steps over faces (6), also edges (18) or also corners (26).
+    Those of all values together are the components of `vdb.Mask(grid)`. All other voxels are 0, inactive.
+
+    Raises RangeError for another connectivity, and ImportError without scipy.
+
+    Examples
+    --------
+    >>> grid = vdb.Grid.from_array(np.array([[[3, 3, 0, 3], [0, 0, 3, 5]]]))
+    >>> vdb.labels.components(grid)[...].tolist(), vdb.labels.components(grid, 18)[...].tolist()
+    ([[[1, 1, 0, 2], [0, 0, 3, 4]]], [[[1, 1, 0, 1], [0, 0, 1, 2]]])
+    """
+    if connectivity not in ORDERS:
+        raise RangeError(f"the connectivity is 6, 18 or 26, not {connectivity!r}")
+    values = np.array([False, True]) if grid.kind == "bool" else grid.labels().values
+    items, nodes = Items(grid, values), Nodes(ORDERS[connectivity])
+    nodes.find(items)
+    numbers = nodes.numbers()
+    made = Grid("i32", limit=grid.limit, metadata=images.kept(grid.metadata, np.dtype(np.int32)))  # type: ignore[attr-defined]
+    for part in items.chunks():
+        found = numbers[nodes.leaves[part]]
+        write_leaves(made._held, items.lows[0][part], found, found != 0)
+    for side, low, tiles in zip(SIDES, items.lows[1:], nodes.tiles):
+        write_cubes(made._held, Cubes(low, side, numbers[tiles]))
+    made.prune()
+    return made
+
+
+class Nodes:
+    """The nodes of a graph of components: connected voxels of one cell of a leaf, and tiles. Node 0 is that of inactive voxels."""
+
+    def __init__(self, order: int) -> None:
+        self.order = order
+        self.sparse, self.csgraph = (package(name, "python3-scipy") for name in ("scipy.sparse", "scipy.sparse.csgraph"))
+        none = np.zeros(0, np.int32)
+        self.edges = [(none, none)]
+
+    def find(self, items: Items) -> None:
+        """Finds the nodes and the edges between them."""
+        self.leaves = np.empty(items.cells.shape, np.int32)
+        count, cells, corners = 1, [np.zeros(1, items.cells.dtype)], [np.zeros((1, 3), np.int32)]
+        for part in items.chunks():
+            some = items.cells[part]
+            number = first_voxels(some, self.order)
+            root = (number == np.arange(512)) & (some != 0)
+            rank = np.cumsum(root, dtype=np.int32).reshape(root.shape) + np.int32(count - 1)
+            self.leaves[part] = np.take_along_axis(rank, number, axis=1) * (some != 0)
+            count += np.count_nonzero(root)
+            cells.append(some[root])
+            corners.append(places(items.lows[0][part], root))
+        self.tiles = []
+        for tiles in items.tiles:
+            self.tiles.append(np.arange(count, count + len(tiles), dtype=np.int32))
+            count += len(tiles)
+        self.cells, self.corners = np.concatenate([*cells, *items.tiles]), np.concatenate([*corners, *items.lows[1:]])
+        for contact in items.contacts(self.order):
+            if contact.other == 0:
+                for pair in meeting(self.leaves, contact, self.order):
+                    self.join(*pair)
+            elif contact.other is not None:
+                second = self.tiles[contact.other - 1][contact.second]
+                if contact.one:
+                    self.join(self.tiles[contact.one - 1][contact.first], second)
+                else:
+                    near = slab(self.leaves, contact.first, towards(contact.step))
+                    self.join(near, np.broadcast_to(second[:, None], near.shape))
+
+    def join(self, one: np.ndarray, other: np.ndarray) -> None:
+        """Adds edges between nodes of one cell."""
+        same = (one > 0) & (self.cells[one] == self.cells[other])
+        one, other = one[same], other[same]
+        new = np.ones(len(one), np.bool_)
+        new[1:] = (one[1:] != one[:-1]) | (other[1:] != other[:-1])
+        self.edges.append((one[new], other[new]))
+
+    def numbers(self) -> np.ndarray:
+        """Returns the number of the component of each node, 0 for node 0."""
+        one, other = (np.concatenate(ends) for ends in zip(*self.edges))
+        graph = self.sparse.coo_matrix((np.ones(len(one), np.int8), (one, other)), shape=(len(self.cells),) * 2)
+        component = self.csgraph.connected_components(graph, directed=False)[1]
+        order = 1 + np.lexsort(self.corners[1:].T[::-1])
+        _, index = np.unique(component[order], return_index=True)
+        ranks = np.zeros(len(index) + 1, np.int64)
+        ranks[component[order][np.sort(index)]] = np.arange(1, len(index) + 1)
+        ranks[component[0]] = 0
+        return ranks[component]
+
+
+def first_voxels(cells: np.ndarray, order: int) -> np.ndarray:
+    """Returns of each voxel of leaves (n x 512) the least number of a voxel of its component in the leaf. Numbers pass from voxel to voxel
+    of one cell, to and fro along each axis, until none falls."""
+    cube = np.ascontiguousarray(cells.T).reshape(8, 8, 8, -1)
+    number = np.empty(cube.shape, np.int16)
+    number[...] = np.arange(512, dtype=np.int16).reshape(8, 8, 8, 1)
+    moves = []
+    for step in steps_of(order):
+        if step > (0, 0, 0):
+            past, first = (tuple(slice(max(0, by), 8 + min(0, by)) for by in way) for way in (step, [-by for by in step]))
+            wall = (cube[first] != cube[past]) * np.int16(512)  # a number with this bit is greater than any without
+            pairs = [(number[first], number[past], wall)]
+            if step.count(0) == 2:
+                pairs = [*zip(*(np.moveaxis(it, step.index(1), 0) for it in pairs[0]))]
+            moves += [*pairs, *((other, one, between) for one, other, between in reversed(pairs))]
+    before = np.zeros(0, np.int16)
+    while not np.array_equal(before, number):
+        before = number.copy()
+        for one, other, between in moves:
+            np.minimum(other, one | between, out=other)
+    return np.ascontiguousarray(number.reshape(512, -1).T)
+
+
+def changed(mask: Mask, names: Sequence[str], iterations: int) -> Mask:
+    """Returns a copy that was dilated or eroded by faces. Raises RangeError for fewer iterations than 1."""
+    if iterations < 1:
+        raise RangeError(f"the number of iterations is at least 1, not {iterations}")
+    made = Mask(mask)
+    for name in names:
+        for done in range(0, iterations, 16):
+            getattr(made, name)(min(16, iterations - done))
+    return made
+
+
+def open(mask: Grid, iterations: int = 1) -> Mask:
+    """Returns the mask of the active voxels, opened: eroded, then dilated in as many iterations by faces. It loses what is thinner.
+
+    Examples
+    --------
+    >>> mask = vdb.Mask.from_array(np.ones((3, 3, 3), bool))
+    >>> mask[1, 1, 3:9] = True
+    >>> mask.count, vdb.labels.open(mask).count
+    (33, 12)
+    """
+    return changed(Mask(mask), ("erode", "dilate"), iterations)
+
+
+def close(mask: Grid, iterations: int = 1) -> Mask:
+    """Returns the mask of the active voxels, closed: dilated, then eroded in as many iterations by faces. Narrower gaps are filled.
+
+    Examples
+    --------
+    >>> mask = vdb.Mask.from_array(np.ones((5, 5, 5), bool))
+    >>> mask[:, :, 2] = False
+    >>> mask.count, vdb.labels.close(mask).count
+    (100, 109)
+    """
+    return changed(Mask(mask), ("dilate", "erode"), iterations)
+
+
+def fill_holes(mask: Grid) -> Mask:
+    """Returns the mask of the active voxels and of the holes in it: the voxels from which no path over faces leads out of its bounding box.
+
+    Examples
+    --------
+    >>> shell = vdb.Mask.from_array(np.ones((5, 5, 5), bool))
+    >>> shell[1:4, 1:4, 1:4] = False
+    >>> shell.count, vdb.labels.fill_holes(shell).count
+    (98, 125)
+    """
+    made = Mask(mask)
+    if made.bounds:
+        (low, high), side = made.bounds, SIDES[1]
+        begin = [max(-COORDINATE_SPAN, (at - 1) // side * side) for at in low]
+        end = [min(COORDINATE_SPAN, (at + 1) // side * side + side) - 1 for at in high]
+        around = components(made.complement((begin, end)))
+        values, _, first, last = around.labels()
+        made.unite(around.select(values[(first > begin).all(axis=1) & (last < end).all(axis=1)]), ignore_geometry=True)
+    return made
+
+
+def margin(mask: Grid, distance: float, spacing: "Sequence[float] | None" = None) -> Mask:
+    """Returns the mask of all voxels whose middle is at most this distance from the middle of an active voxel, these too, as
+    `scipy.ndimage.distance_transform_edt` finds it on the inactive voxels, with `sampling=spacing`.
+
+    Raises RangeError for a distance below 0 or of more than 256 voxels, or past 32 bits, and for a wrong spacing.
+
+    Examples
+    --------
+    >>> organ = vdb.Mask.from_array(np.ones((1, 1, 1), bool))
+    >>> vdb.labels.margin(organ, 2.5, spacing=(1, 1, 3))[0:3, 0:3, 0].astype(int).tolist()
+    [[1, 1, 1], [1, 1, 1], [1, 1, 0]]
+    """
+    made = Mask(mask)
+    reach = reaches(distance, spacing_of(mask, spacing))
+    wide = np.array([*reach.shape, reach.max() + 1]) - 1
+    bounds = made.bounds
+    if bounds is None or not wide.any():
+        return made
+    if (np.array(bounds[0]) - wide < -COORDINATE_SPAN).any() or (np.array(bounds[1]) + wide >= COORDINATE_SPAN).any():
+        raise RangeError(f"the margin of {bounds[0]} to {bounds[1]} goes past 32 bits")
+    source, bricks = made.copy(), [np.zeros((0, 3), np.int64)]
+    for part in parts_of(source):
+        if isinstance(part, Rows):
+            bricks.append(np.unique(part.origins[part.active.any(axis=1)].astype(np.int64) // BRICK, axis=0))
+        elif part.side == SIDES[0]:
+            bricks.append(np.unique(part.low.astype(np.int64) // BRICK, axis=0))
+        else:
+            grow_tiles(made, part, reach)
+    near = np.array([*product(*(range(-count, count + 1) for count in -(-wide // BRICK)))])
+    own = np.unique(np.concatenate(bricks), axis=0)
+    for brick in np.unique((own[:, None] + near).reshape(-1, 3), axis=0) * BRICK:
+        if (brick >= -COORDINATE_SPAN).all() and (brick < COORDINATE_SPAN).all():
+            grow_brick(source, made, brick, reach, wide)
+    made.prune()
+    return made
+
+
+def reaches(distance: float, spacing: Sequence[float]) -> np.ndarray:
+    """Returns by how many voxels along z the ball of a distance reaches past its middle (n x m), by those along x and y, -1 for none.
+    Raises RangeError for a distance below 0 or of more than WIDEST voxels."""
+    if not 0 <= distance <= WIDEST * min(spacing):
+        raise RangeError(f"the distance is 0 to {WIDEST} voxels, which are {WIDEST * min(spacing)}, not {distance!r}")
+    x, y, z = ((np.arange(floor(distance / size) + 2) * size) ** 2 for size in spacing)
+    # in the order of scipy's sums, so that a distance that is met exactly is met in both
+    made = np.stack([(np.sqrt((at + y)[:, None] + z) <= distance).sum(axis=1) - 1 for at in x])
+    return made[made[:, 0] >= 0][:, made[0] >= 0]
+
+
+def grow_tiles(made: Mask, tiles: Cubes, reach: np.ndarray) -> None:
+    """Puts the margins of tiles into a mask: boxes, which are longer by a step along each axis that the ball holds."""
+    low, high, _ = strips(tiles)
+    past = np.pad(reach, ((0, 1), (0, 1)), constant_values=-1)
+    for x, y in np.argwhere((reach >= 0) & (reach > past[1:, :-1]) & (reach > past[:-1, 1:])):
+        step = np.array([x, y, reach[x, y]], np.int32)
+        fill_boxes(made._held, low - step, high + step, 1)
+
+
+def grow_brick(source: Mask, made: Mask, low: np.ndarray, reach: np.ndarray, wide: np.ndarray) -> None:
+    """Puts the voxels of a brick that are in the margin of a mask into another one. `wide` is how far the ball reaches along each axis."""
+    begin, past = np.maximum(low - wide, -COORDINATE_SPAN), np.minimum(low + BRICK + wide, COORDINATE_SPAN)
+    if not source.count_in((begin.tolist(), (past - 1).tolist())) or source.count_in((low.tolist(), (low + BRICK - 1).tolist())) == BRICK**3:
+        return
+    states = np.zeros(BRICK + 2 * wide, np.bool_)
+    x, y, z = begin.tolist()
+    source._read((x, y, z), None, states[tuple(map(slice, begin - low + wide, past - low + wide))], None)
+    found = np.zeros((BRICK,) * 3, np.bool_)
+    spread = np.zeros((*states.shape[:2], BRICK), np.bool_)
+    middle = wide[2]
+    for by in range(middle + 1):
+        for at in {middle - by, middle + by}:
+            spread |= states[:, :, at : at + BRICK]
+        for step in np.argwhere(reach == by):
+            for i, j in product(*({at - it, at + it} for at, it in zip(wide, step))):
+                found |= spread[i : i + BRICK, j : j + BRICK]
+    write_box(made._held, low.tolist(), found, found)
