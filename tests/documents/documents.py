@@ -149,8 +149,9 @@ def wrong_speeds():
         medians = [float(it.replace(",", "")) for row in rows for it in re.findall(r"\| ([\d,.]+)", row)]
         (shown,) = re.findall(rf"(?m)^\| [^|]*{word}[^|]* \| .*", text("README.md"))
         for figure, digits, unit in re.findall(r"(\d+(?:\.(\d+))?) (ns|us|s|MB)\b", shown):
-            scale = 1000 if unit == "us" else 1
-            if f"{figure} {unit}" not in text("docs/BENCHMARKS.md") and not any(abs(it / scale - float(figure)) <= 0.51 * 10 ** -len(digits) for it in medians):
+            scale, half = 1000 if unit == "us" else 1, 0.51 * 10 ** -len(digits)
+            is_measured = any(abs(it / scale - float(figure)) <= half for it in medians)
+            if not is_measured and f"{figure} {unit}" not in text("docs/BENCHMARKS.md"):
                 yield f"README.md: {figure} {unit} in '{word}', which isn't in {results}: {name}"
 
 
