@@ -11,7 +11,7 @@ reports and exits with status 1 if
 - the example in docs/LIBRARY.md differs from `fill_and_count` of library_examples, which CI proves,
 - a file has another version than VERSION (tools/set-version),
 - the tables of docs/PROOFS.md differ from those of definitions.py; --write renews them,
-- a code block of a page for users isn't of the form that --run needs,
+- README has no link to a page for users, or a code block of one isn't of the form that --run needs,
 - a number in a document differs from its source: of commands, crates, edits, checks, definitions, limits, speeds, minutes of CI,
 - docs/TESTING.md tells another least number of results of a suite than CI asks for.
 """
@@ -220,6 +220,8 @@ def main():
     found += repeats(names)
     for name in pages.pages():
         found += pages.bad_blocks(name)
+        if name != pages.README and f"({name})" not in text(pages.README):
+            found.append(f"README.md: no link to {name}")
     print("\n".join(found), end="\n" * bool(found))
     sys.exit(bool(found))
 
