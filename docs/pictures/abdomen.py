@@ -50,10 +50,10 @@ def tube(points, radii):
     points, made = np.asarray(points, float), np.zeros(SHAPE, bool)
     lengths = np.r_[0, np.cumsum(np.linalg.norm(np.diff(points, axis=0), axis=1))]
     for along in np.arange(0, lengths[-1], 0.7):
-        at = [np.interp(along, lengths, column) for column in points.T]
+        x, y, z = at = [np.interp(along, lengths, column) for column in points.T]
         radius = np.interp(along, [0, lengths[-1]], radii)
         box = [slice(max(0, int(it - radius)), max(0, int(it + radius) + 2)) for it in at]
-        near = sum((axis[tuple(part if axis.shape[i] > 1 else slice(None) for i, part in enumerate(box))] - it) ** 2 for axis, it in zip((X, Y, Z), at))
+        near = (X[box[0]] - x) ** 2 + (Y[:, box[1]] - y) ** 2 + (Z[:, :, box[2]] - z) ** 2
         made[tuple(box)] |= near <= radius**2
     return made
 
@@ -86,8 +86,11 @@ def labels():
     made[blob((76, 98, 138), (24, 22, 36), 0.1, (-0.25, -0.2)) & (made == 0)] = 5
     made[tube([(132, 74, 100), (112, 84, 108), (86, 74, 116), (62, 66, 128)], (11, 6)) & (made == 0)] = 6
     made[blob((146, 112, 102), (9, 10, 17), 0.05, (0.2, 0.3))] = 7
-    made[tube([(105, 54, 207), (103, 56, 120), (106, 58, 44)], (8, 7)) | tube([(106, 58, 46), (88, 64, 0)], (5, 5))
-         | tube([(106, 58, 46), (126, 64, 0)], (5, 5)) | tube([(104, 56, 98), (80, 52, 96)], (3, 3)) | tube([(104, 56, 92), (146, 50, 88)], (3, 3))] = 8  # fmt: skip
+    for points, radii in (
+        ([(105, 54, 207), (103, 56, 120), (106, 58, 44)], (8, 7)), ([(106, 58, 46), (88, 64, 0)], (5, 5)), ([(106, 58, 46), (126, 64, 0)], (5, 5)),
+        ([(104, 56, 98), (80, 52, 96)], (3, 3)), ([(104, 56, 92), (146, 50, 88)], (3, 3)),
+    ):  # fmt: skip
+        made[tube(points, radii)] = 8
     made[tube([(128, 72, 207), (122, 60, 130), (120, 56, 30)], (8, 8)) | tube([(120, 58, 90), (148, 48, 86)], (4, 4))] = 9
     for start, direction in (((128, 74, 156), (0.7, 0.6, 0)), ((126, 76, 124), (0.8, 0.3, 0.5)), ((120, 84, 152), (-0.5, 0.8, -0.1))):
         for points, radii in branches(start, direction, 3.6, 4):

@@ -11,7 +11,7 @@ reports and exits with status 1 if
 - the example in docs/LIBRARY.md differs from `fill_and_count` of library_examples, which CI proves,
 - a file has another version than VERSION (tools/set-version),
 - the tables of docs/PROOFS.md differ from those of definitions.py; --write renews them,
-- a code block of a page for users isn't of the form that --run needs,
+- README has no link to a page for users, or a code block of one isn't of the form that --run needs,
 - a number in a document differs from its source: of commands, crates, edits, checks, definitions, limits, speeds, minutes of CI,
 - docs/TESTING.md tells another least number of results of a suite than CI asks for.
 """
@@ -149,8 +149,9 @@ def wrong_speeds():
         medians = [float(it.replace(",", "")) for row in rows for it in re.findall(r"\| ([\d,.]+)", row)]
         (shown,) = re.findall(rf"(?m)^\| [^|]*{word}[^|]* \| .*", text("README.md"))
         for figure, digits, unit in re.findall(r"(\d+(?:\.(\d+))?) (ns|us|s|MB)\b", shown):
-            scale = 1000 if unit == "us" else 1
-            if f"{figure} {unit}" not in text("docs/BENCHMARKS.md") and not any(abs(it / scale - float(figure)) <= 0.51 * 10 ** -len(digits) for it in medians):
+            scale, half = 1000 if unit == "us" else 1, 0.51 * 10 ** -len(digits)
+            is_measured = any(abs(it / scale - float(figure)) <= half for it in medians)
+            if not is_measured and f"{figure} {unit}" not in text("docs/BENCHMARKS.md"):
                 yield f"README.md: {figure} {unit} in '{word}', which isn't in {results}: {name}"
 
 
@@ -219,6 +220,8 @@ def main():
     found += repeats(names)
     for name in pages.pages():
         found += pages.bad_blocks(name)
+        if name != pages.README and f"({name})" not in text(pages.README):
+            found.append(f"README.md: no link to {name}")
     print("\n".join(found), end="\n" * bool(found))
     sys.exit(bool(found))
 
