@@ -18,3 +18,4 @@ pub mod BoxWrites
 pub mod LeafWrites
 pub mod Leaves
 pub mod Equality
+pub mod Parts
