@@ -122,6 +122,15 @@ typedef struct vdb_census {
     uint64_t leaf;  /* cubes of 8 voxels whose cells aren't all equal */
 } vdb_census;
 
+/* A part of a grid: a tile, whose voxels all have its value and its state, or a leaf, whose state is VDB_LEAF and whose value is 0. */
+typedef struct vdb_part {
+    vdb_box box;
+    int64_t value;
+    int32_t state;
+} vdb_part;
+
+enum { VDB_LEAF = 2 };
+
 /* The type of a grid's values. */
 enum { VDB_BOOL = 0, VDB_I32 = 1, VDB_I64 = 2 };
 
@@ -328,6 +337,18 @@ VDB_CODE vdb_grid_first_leaves(vdb_grid *grid, vdb_coord *origins, size_t count,
 VDB_CODE vdb_grid_next_leaves(vdb_grid *grid, int32_t x, int32_t y, int32_t z, vdb_coord *origins, size_t count, int64_t *values,
                               size_t values_len, uint64_t *states, size_t states_len, size_t *copied);
 
+/* Copies parts in block order, at most `count`: the leaves of the grid's tree, and its tiles other than those of the inactive background. They
+ * are the first ones, or those with a voxel past a coordinate, such as the greatest corner of the last part of the previous call. Sets
+ * *copied to their number, 0 if none is left. Each voxel past the coordinate lies in one part, or is the inactive background. No element
+ * past those of the copied parts changes.
+ *
+ *     for (code = vdb_grid_first_parts(g, parts, 64, &n); !code && n;
+ *          code = vdb_grid_next_parts(g, parts[n - 1].box.max.x, parts[n - 1].box.max.y, parts[n - 1].box.max.z, parts, 64, &n))
+ *         ...
+ */
+VDB_CODE vdb_grid_first_parts(vdb_grid *grid, vdb_part *parts, size_t count, size_t *copied);
+VDB_CODE vdb_grid_next_parts(vdb_grid *grid, int32_t x, int32_t y, int32_t z, vdb_part *parts, size_t count, size_t *copied);
+
 /* ---- Many voxels of a grid at once ---------------------------------------------------------------------------------- */
 
 /* Values (int64_t) and states (uint8_t) are arrays with lengths of their own, in elements. Pass length 0 to omit an array: that part
@@ -400,6 +421,8 @@ VDB_CODE vdb_view_first_leaves(vdb_view *view, vdb_coord *origins, size_t count,
                                size_t states_len, size_t *copied);
 VDB_CODE vdb_view_next_leaves(vdb_view *view, int32_t x, int32_t y, int32_t z, vdb_coord *origins, size_t count, int64_t *values,
                               size_t values_len, uint64_t *states, size_t states_len, size_t *copied);
+VDB_CODE vdb_view_first_parts(vdb_view *view, vdb_part *parts, size_t count, size_t *copied);
+VDB_CODE vdb_view_next_parts(vdb_view *view, int32_t x, int32_t y, int32_t z, vdb_part *parts, size_t count, size_t *copied);
 
 /* ---- A scene -------------------------------------------------------------------------------------------------------- */
 

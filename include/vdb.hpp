@@ -62,6 +62,7 @@ using Coord = vdb_coord;
 using Box = vdb_box;
 using Census = vdb_census;
 using Strides = vdb_strides;
+using Part = vdb_part;
 
 // The elements of an array or a vector that something else owns, like std::span. It is the same type in C++17 and C++20, so their
 // objects can be linked together.
@@ -177,6 +178,7 @@ private:
 class Accessor;
 template <typename Owner> class ActiveVoxelsOf;
 template <typename Owner> class LeavesOf;
+template <typename Owner> class PartsOf;
 
 // A grid. The comments of vdb.h describe each call.
 class Grid {
@@ -332,6 +334,11 @@ public:
     LeavesOf<Grid> leaves() const &;
     LeavesOf<Grid> leaves() const && = delete;
 
+    // Returns the leaves of the tree and its tiles other than those of the inactive background, in block order, for a range-based for. The
+    // loop must not change the grid.
+    PartsOf<Grid> parts() const &;
+    PartsOf<Grid> parts() const && = delete;
+
     // Returns the active voxels of a box in block order, for a range-based for. The loop may change them: each step finds the first
     // active voxel after the last one.
     ActiveVoxelsOf<Grid> voxels(const Box &box = everywhere) const &;
@@ -341,6 +348,7 @@ private:
     friend class Accessor;
     friend class ActiveVoxelsOf<Grid>;
     friend class LeavesOf<Grid>;
+    friend class PartsOf<Grid>;
     friend class Scene;
     friend class View;
 
@@ -348,6 +356,8 @@ private:
     static constexpr auto next_active = vdb_grid_next_active;
     static constexpr auto first_leaves = vdb_grid_first_leaves;
     static constexpr auto next_leaves = vdb_grid_next_leaves;
+    static constexpr auto first_parts = vdb_grid_first_parts;
+    static constexpr auto next_parts = vdb_grid_next_parts;
 
     Grid() = default;
 
@@ -555,6 +565,63 @@ using Leaves = LeavesOf<Grid>;
 
 inline Leaves Grid::leaves() const & { return Leaves(*this); }
 
+// The parts of a grid, 64 of which cross at a time.
+template <typename Owner> class PartsOf {
+public:
+    class Iterator {
+    public:
+        using iterator_category = std::input_iterator_tag;
+        using value_type = Part;
+        using difference_type = std::ptrdiff_t;
+        using pointer = const Part *;
+        using reference = const Part &;
+
+        Iterator() = default;
+        explicit Iterator(const Owner &owner) : owner_(&owner)
+        {
+            check(Owner::first_parts(owner.shared(), parts_.data(), parts_.size(), &count_));
+            if (count_ == 0)
+                owner_ = nullptr;
+        }
+
+        reference operator*() const { return parts_[index_]; }
+        pointer operator->() const { return &parts_[index_]; }
+        Iterator &operator++()
+        {
+            if (++index_ < count_)
+                return *this;
+            const Coord last = parts_[count_ - 1].box.max;
+            check(Owner::next_parts(owner_->shared(), last.x, last.y, last.z, parts_.data(), parts_.size(), &count_));
+            index_ = 0;
+            if (count_ == 0)
+                owner_ = nullptr;
+            return *this;
+        }
+        detail::Before<Part> operator++(int)
+        {
+            detail::Before<Part> before(parts_[index_]);
+            ++*this;
+            return before;
+        }
+        friend bool operator==(const Iterator &a, const Iterator &b) { return a.owner_ == b.owner_; }
+        friend bool operator!=(const Iterator &a, const Iterator &b) { return a.owner_ != b.owner_; }
+
+    private:
+        const Owner *owner_ = nullptr;
+        std::array<Part, 64> parts_ = {};
+        std::size_t index_ = 0, count_ = 0;
+    };
+
+    explicit PartsOf(const Owner &owner) : owner_(&owner) {}
+    Iterator begin() const { return Iterator(*owner_); }
+    Iterator end() const { return Iterator(); }
+
+private:
+    const Owner *owner_;
+};
+
+inline PartsOf<Grid> Grid::parts() const & { return PartsOf<Grid>(*this); }
+
 // A set of voxels, like OpenVDB's MaskGrid: a grid of booleans that is 1 where it is active, and 0 everywhere else. It converts to
 // that grid. A mask of any other grid is the set of its active voxels. put(name, std::move(mask).grid()) stores it in a scene.
 class Mask {
@@ -699,17 +766,22 @@ public:
     }
     LeavesOf<View> leaves() const & { return LeavesOf<View>(*this); }
     LeavesOf<View> leaves() const && = delete;
+    PartsOf<View> parts() const & { return PartsOf<View>(*this); }
+    PartsOf<View> parts() const && = delete;
     ActiveVoxelsOf<View> voxels(const Box &box = everywhere) const & { return ActiveVoxelsOf<View>(*this, box); }
     ActiveVoxelsOf<View> voxels(const Box &box = everywhere) const && = delete;
 
 private:
     friend class ActiveVoxelsOf<View>;
     friend class LeavesOf<View>;
+    friend class PartsOf<View>;
 
     static constexpr auto first_active = vdb_view_first_active;
     static constexpr auto next_active = vdb_view_next_active;
     static constexpr auto first_leaves = vdb_view_first_leaves;
     static constexpr auto next_leaves = vdb_view_next_leaves;
+    static constexpr auto first_parts = vdb_view_first_parts;
+    static constexpr auto next_parts = vdb_view_next_parts;
 
     View() = default;
 
@@ -894,6 +966,8 @@ template <typename Owner> inline constexpr bool std::ranges::enable_view<vdb::Ac
 template <typename Owner> inline constexpr bool std::ranges::enable_borrowed_range<vdb::ActiveVoxelsOf<Owner>> = true;
 template <typename Owner> inline constexpr bool std::ranges::enable_view<vdb::LeavesOf<Owner>> = true;
 template <typename Owner> inline constexpr bool std::ranges::enable_borrowed_range<vdb::LeavesOf<Owner>> = true;
+template <typename Owner> inline constexpr bool std::ranges::enable_view<vdb::PartsOf<Owner>> = true;
+template <typename Owner> inline constexpr bool std::ranges::enable_borrowed_range<vdb::PartsOf<Owner>> = true;
 #endif
 
 #endif

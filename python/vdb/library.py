@@ -36,6 +36,10 @@ class Box(Structure):
     _fields_ = [("min", Coord), ("max", Coord)]
 
 
+class Part(Structure):
+    _fields_ = [("box", Box), ("value", c_int64), ("state", c_int32)]
+
+
 class Strides(Structure):
     _fields_ = [("x", c_size_t), ("y", c_size_t), ("z", c_size_t)]
 
@@ -56,6 +60,7 @@ PLACE = (c_int32, c_int32, c_int32)
 NAMED = (SCENE, BYTES, c_size_t)
 DENSE = (BOX, POINTER(Strides), I64, c_size_t, BUFFER, c_size_t)
 LEAVES = (COORD, c_size_t, I64, c_size_t, U64, c_size_t, SIZE)
+PARTS = (POINTER(Part), c_size_t, SIZE)
 
 #: The types of the arguments of each call.
 ARGUMENTS = {
@@ -93,6 +98,8 @@ ARGUMENTS = {
     "vdb_grid_leaf_count": (GRID, U64),
     "vdb_grid_first_leaves": (GRID, *LEAVES),
     "vdb_grid_next_leaves": (GRID, *PLACE, *LEAVES),
+    "vdb_grid_first_parts": (GRID, *PARTS),
+    "vdb_grid_next_parts": (GRID, *PLACE, *PARTS),
     "vdb_grid_get_many": (GRID, c_int32, COORD, c_size_t, I64, c_size_t, BUFFER, c_size_t),
     "vdb_grid_write_many": (GRID, c_int32, COORD, c_size_t, I64, c_size_t, BUFFER, c_size_t, SIZE),
     "vdb_grid_read_box": (GRID, *DENSE),
@@ -116,6 +123,8 @@ ARGUMENTS = {
     "vdb_view_leaf_count": (VIEW, U64),
     "vdb_view_first_leaves": (VIEW, *LEAVES),
     "vdb_view_next_leaves": (VIEW, *PLACE, *LEAVES),
+    "vdb_view_first_parts": (VIEW, *PARTS),
+    "vdb_view_next_parts": (VIEW, *PLACE, *PARTS),
     "vdb_scene_new": (SCENE,),
     "vdb_scene_free": (SCENE,),
     "vdb_scene_load": (SCENE, BUFFER, c_size_t),

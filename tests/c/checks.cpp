@@ -199,6 +199,43 @@ static void equal()
     CHECK(gone == a && code_of([&] { (void)(a == b); }) == VDB_EMPTY);
 }
 
+// Two leaves, a tile of 8, one of 128 and one of 4,096 voxels along each axis, more parts than cross at a time, and none.
+static void tree_parts()
+{
+    vdb::Grid grid(vdb::Kind::i32);
+    CHECK(grid.parts().begin() == grid.parts().end());
+    grid.fill({{0, 0, 0}, {7, 7, 7}}, 5, false);
+    grid.fill({{128, 0, 0}, {255, 127, 127}}, 6);
+    grid.fill({{4096, 0, 0}, {8191, 4095, 4095}}, 7);
+    grid.set({-1, 0, 0}, 1);
+    grid.set({9, 0, 0}, 2, false);
+    std::vector<vdb::Part> found;
+    for (const vdb::Part &part : grid.parts())
+        found.push_back(part);
+    CHECK(found.size() == 5);
+    CHECK(found[0].box == (vdb::Box{{-8, 0, 0}, {-1, 7, 7}}) && found[0].state == VDB_LEAF);
+    CHECK(found[1].box == (vdb::Box{{0, 0, 0}, {7, 7, 7}}) && found[1].value == 5 && found[1].state == 0);
+    CHECK(found[2].box == (vdb::Box{{8, 0, 0}, {15, 7, 7}}) && found[2].state == VDB_LEAF);
+    CHECK(found[3].box == (vdb::Box{{128, 0, 0}, {255, 127, 127}}) && found[3].value == 6 && found[3].state == 1);
+    CHECK(found[4].box == (vdb::Box{{4096, 0, 0}, {8191, 4095, 4095}}) && found[4].value == 7 && found[4].state == 1);
+    std::size_t count = 0;
+    vdb::Part part = {};
+    CHECK(vdb_grid_next_parts(grid.handle(), 130, 1, 1, &part, 1, &count) == VDB_OK && count == 1 && part.value == 6);
+    CHECK(vdb_grid_next_parts(grid.handle(), 255, 127, 127, &part, 1, &count) == VDB_OK && count == 1 && part.value == 7);
+    CHECK(vdb_grid_next_parts(grid.handle(), 8191, 4095, 4095, &part, 1, &count) == VDB_OK && count == 0);
+    vdb::Grid many(vdb::Kind::i64);
+    for (int32_t x = 0; x < 200; x++)
+        many.fill({{16 * x, 0, 0}, {16 * x + 7, 7, 7}}, x + 1);
+    int64_t last = 0;
+    for (const vdb::Part &it : many.parts())
+        CHECK(it.value == ++last && it.box.min.x == 16 * (it.value - 1));
+    CHECK(last == 200);
+    const vdb::View view(std::move(many));
+    for (const vdb::Part &it : view.parts())
+        last -= it.state;
+    CHECK(last == 0);
+}
+
 // A call on one grid twice.
 static void same()
 {
@@ -612,6 +649,7 @@ int main(int, char **argv)
     pairs();
     masks();
     equal();
+    tree_parts();
     same();
     operands();
     constants();

@@ -409,6 +409,33 @@ class Session:
         name, given = ("first", arguments) if is_first else ("next", [*after, *arguments])
         return self.on_readable(f"{name}_leaves", given, wrong, outs, lambda grid: [text_of(it) for it in outs], commit)
 
+    def parts(self):
+        """Some parts from the first on, or past a voxel. They must be in order, have the cells of the map, and leave none out."""
+        is_first, most = self.rarely(0.5), self.chance.choice([0, 1, 2, 5, 40])
+        after = self.voxel(self.place())
+        found, copied = (self.header.types["vdb_part"] * max(1, most))(), c_size_t(77)
+
+        def commit(grid, word, handle):
+            boxes = [(text_of(it.box.min), text_of(it.box.max)) for it in found[: copied.value]]
+            ends = [order_of(high) for _, high in boxes]
+            need(ends == sorted(ends), "parts are out of order")
+            need(all(order_of(low) > end for (low, _), end in zip(boxes[1:], ends)), "a part begins before the last one ends")
+            need(is_first or not ends or ends[0] > order_of(after), "the first part has no voxel past the place")
+            for part, (low, high) in zip(found, boxes):
+                for _ in range(3):
+                    at = tuple(self.chance.randint(a, b) for a, b in zip(low, high))
+                    cell = grid.get(tuple(map(self.lattice.at, at)))
+                    need(part.state == 2 or (part.value, bool(part.state)) == cell, f"the cell at {at} of a tile")
+            for cell in self.chance.sample(sorted(grid.cells), min(20, len(grid.cells))):
+                at = tuple(self.voxel(cell))
+                if (is_first or order_of(at) > order_of(after)) and (copied.value < most or ends and order_of(at) <= ends[-1]):
+                    need(any(all(a <= it <= b for a, it, b in zip(low, at, high)) for low, high in boxes), f"no part has {at}")
+            return OK
+
+        outs = [found, copied]
+        name, given = ("first", []) if is_first else ("next", after)
+        return self.on_readable(f"{name}_parts", [*given, found, most, byref(copied)], False, outs, lambda grid: [text_of(it) for it in outs], commit)
+
     # -- views
 
     def view(self):
@@ -669,7 +696,7 @@ class Session:
 
     KINDS_OF_STEP = [
         (set, 30), (get, 25), (fill, 8), (clip, 3), (nodes, 3), (iterate, 2), (combine, 5), (equal, 3), (new, 3), (free, 0.5), (copy, 2), (facts, 2),
-        (count, 2), (bounds, 2), (census, 1), (active, 5), (many, 6), (dense, 6), (leaf_count, 1), (leaves, 3), (view, 3), (scene_new, 0.5), (scene_load, 0.3), (scene_save, 0.5),
+        (count, 2), (bounds, 2), (census, 1), (active, 5), (many, 6), (dense, 6), (leaf_count, 1), (leaves, 3), (parts, 3), (view, 3), (scene_new, 0.5), (scene_load, 0.3), (scene_save, 0.5),
         (scene_names, 1), (scene_put, 0.8), (scene_take, 0.8), (scene_swap, 0.8), (scene_meta, 2),
     ]  # fmt: skip
 

@@ -116,7 +116,7 @@ module _ {V : Type 0} (f g : Field V) (box : Box) where
     leaf_same b second t is = (
       λ holds q i. first.0.cells q i ∙ (is (off f.background)).0 holds (offset vdb Leaf q) (offset_below vdb Leaf q) ∙ sym (second q i),
       λ all. (is (off f.background)).1 (λ i h. let p = at i h in
-        ap (cell_in (off f.background) a) (sym p.2) ∙ sym (first.0.cells p.0 p.1) ∙ all p.0 p.1 ∙ second p.0 p.1),
+          ap (cell_in (off f.background) a) (sym p.2) ∙ sym (first.0.cells p.0 p.1) ∙ all p.0 p.1 ∙ second p.0 p.1),
     )
 
     -- two leaves
@@ -125,7 +125,7 @@ module _ {V : Type 0} (f g : Field V) (box : Box) where
     leaves_same b second t is = (
       λ holds q i. first.0.cells q i ∙ (is (off f.background) (off g.background)).0 holds (offset vdb Leaf q) (omega arith) (offset_below vdb Leaf q) ∙ sym (second.cells q i),
       λ all. (is (off f.background) (off g.background)).1 (λ i _ h. let p = at i h in
-        ap (cell_in (off f.background) a) (sym p.2) ∙ sym (first.0.cells p.0 p.1) ∙ all p.0 p.1 ∙ second.cells p.0 p.1 ∙ ap (cell_in (off g.background) b) p.2),
+          ap (cell_in (off f.background) a) (sym p.2) ∙ sym (first.0.cells p.0 p.1) ∙ all p.0 p.1 ∙ second.cells p.0 p.1 ∙ ap (cell_in (off g.background) b) p.2),
     )
 
 -- a tile and a leaf

@@ -27,3 +27,5 @@ pub mod LoadFaults
 pub mod Swaps
 pub mod EqualCells
 pub mod EqualGrids
+pub mod PartsPast
+pub mod PartsOfAny

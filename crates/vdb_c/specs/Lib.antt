@@ -19,3 +19,4 @@ pub mod BoxWrites
 pub mod LeafWrites
 pub mod Leaves
 pub mod Equality
+pub mod Parts

@@ -11,6 +11,7 @@
 //! - `voxels`: calls on one voxel, on many by their coordinates, and on the next active one.
 //! - `boxes`: calls on the voxels of a box, also as arrays.
 //! - `leaves`: calls on the leaves of a grid.
+//! - `parts`: calls on the tiles and the leaves of a grid.
 //! - `scenes`: calls on a scene and on its grids.
 //! - `views`: calls on a grid that several threads read.
 //! - `about`: the version of the library, and the texts of the codes.
@@ -22,6 +23,7 @@ mod codes;
 mod grids;
 mod handles;
 mod leaves;
+mod parts;
 mod scenes;
 mod values;
 mod views;

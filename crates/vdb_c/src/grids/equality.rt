@@ -1,5 +1,5 @@
 //! The call that compares two grids, by a walk over both trees.
-ghost use Rattle.std.specs.Prelude.{◌≡◌, ◌+◌, ◌*◌, ◌<◌, ◌≤◌, ◌↔◌, ℕ, IsTrue, length, slice_index_or};
+ghost use Rattle.std.specs.Prelude.{◌≡◌, ◌+◌, ◌*◌, ◌<◌, ◌↔◌, ℕ, IsTrue, length, slice_index_or};
 ghost use Rattle.vdb_coord.specs.Blocks.{block_around, vdb};
 ghost use Rattle.vdb_coord.specs.Space.{is_inside};
 ghost use Rattle.vdb_coord.specs.declared.Coord.{Coord};
@@ -46,7 +46,11 @@ pub extern "C" fn vdb_grid_equal(
 fn equality(first: &AnyGrid, second: &AnyGrid, steps: &mut Steps) -> i32
     ensures { IsEquality (grid_field first.now) (grid_field second.now) result }
 {
-    if are_equal(first, second, steps) { 1 } else { 0 }
+    if are_equal(first, second, steps) {
+        1
+    } else {
+        0
+    }
 }
 
 /// Returns whether two grids have the same type, background and cells.

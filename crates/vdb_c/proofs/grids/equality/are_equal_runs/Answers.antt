@@ -21,8 +21,7 @@ returns g c = λ d e.
     let first = rw c.states.ensures.same at c.word.ensures in
     let second = rw c.states-2.ensures.same at c.word-2.ensures in
     let x = c.entry-value.result.value in
-    let words : c.word.result ≡ c.word-2.result = first_of (omega arith, search rules) in
-    (
+    let words : c.word.result ≡ c.word-2.result = first_of (omega arith, search rules) in (
       λ holds. runs_same d e a b k c.word.result c.word-2.result first second words
           (λ j h. sym (c.copy_values.ensures.values d j x (first_of (omega (arith, h), search (rules, h)))) ∙ c.are_equal_values.ensures.0 holds j h x ∙ c.copy_values-2.ensures.values e j x (first_of (omega (arith, h), search (rules, h)))),
       λ run. c.are_equal_values.ensures.1 (λ j h y.
