@@ -14,8 +14,8 @@ import time
 
 BENCH = os.path.dirname(os.path.dirname(os.path.abspath(__file__)))
 sys.path[:0] = [f"{os.path.dirname(BENCH)}/python"]
-#: How many voxels a block of cells has along each axis, and how many cells.
-STEP, CELLS = 256, 1500
+#: How many voxels a cube of cells has along each axis, and how many cells; and how many voxels a block of dask has.
+STEP, CELLS, BLOCK = 128, 190, 256
 THREADS = 2
 
 
@@ -63,7 +63,7 @@ def theirs(call, folder):
     import zarr
     from scipy import ndimage
 
-    labels = dask.array.from_zarr(f"{folder}/cells.zarr").rechunk(STEP)
+    labels = dask.array.from_zarr(f"{folder}/cells.zarr").rechunk(BLOCK)
     if call == "labels":
         blocks = [dask.delayed(np.unique)(block) for block in labels.to_delayed().ravel()]
         found = np.unique(np.concatenate(dask.compute(*blocks)))

@@ -29,7 +29,7 @@ class Folder(NamedTuple):
         form = self.form
         values, active = np.full(sides(box), form.background, KINDS[form.kind].dtype), np.zeros(sides(box), np.bool_)
         for low, high in form.present(self.sums):
-            both = np.array([np.maximum(box[0], low), np.minimum(box[1], high)])
+            both: Box = np.array([np.maximum(box[0], low), np.minimum(box[1], high)])
             if (both[0] <= both[1]).all():
                 path = os.path.join(self.path, "{}_{}_{}.vdbs".format(*(low // form.side)))
                 here = slices(both, box[0])
@@ -55,8 +55,8 @@ def read_folder(path: str) -> "tuple[Folder, Dict[str, Any]]":
     bounds = around(it[1] for it in rows.values())
     about["bounds"] = None if bounds is None else check_bounds(bounds)
     if box is not None:
-        x, y, z = sides(box)
-        form = form._replace(side=side, low=tuple((box[0] * side).tolist()), shape=(x * side, y * side, z * side))
+        (x, y, z), (width, height, depth) = (box[0] * side).tolist(), (np.array(sides(box)) * side).tolist()
+        form = form._replace(side=side, low=(x, y, z), shape=(width, height, depth))
     sums = no_sums(form)
     for at in rows:
         sums[(0, *np.subtract(at, box[0])[::-1])] = 1

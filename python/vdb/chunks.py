@@ -370,7 +370,7 @@ def change_block(
     made = called(name, arguments, grid_of(source, near), None)
     if target.form.is_mask:
         return target.write(box, made[slices(box, (0, 0, 0))])
-    shape, dtype = sides(box)[::-1], np.dtype(bool if made.kind == "bool" else target.form.dtype)  # the store has the axes z, y, x
+    shape, dtype = sides(box)[::-1], np.dtype("bool" if made.kind == "bool" else target.form.dtype)  # the store has the axes z, y, x
     return target.write(box, *made.to_array(box, out=(np.empty(shape, dtype).T, np.empty(shape, np.bool_).T)))
 
 

@@ -93,10 +93,11 @@ def replacing_scene(path: "str | os.PathLike[str]", digest: bool) -> "Iterator[C
             file.write(f"{sha256.hexdigest()}  {os.path.basename(name)}\n".encode("utf-8", "surrogateescape"))
 
 
-def unzipped(path: "str | os.PathLike[str]", data: Any, most: int) -> Any:
-    """Returns the bytes of a file: if its name ends in .gz those that gzip unpacks, up to a number of bytes. Raises FileError if it can't."""
+def unzipped(path: "str | os.PathLike[str]", data: Any, most: int) -> "bytearray | None":
+    """Returns what gzip unpacks from the bytes of a file, up to a number of bytes, or None if the file's name doesn't end in .gz. Raises
+    FileError if gzip can't."""
     if not os.fspath(path).endswith(".gz"):
-        return data
+        return None
     with naming(path):
         try:
             return bytearray(gzip.GzipFile(fileobj=io.BytesIO(data)).read(most))

@@ -70,9 +70,9 @@ def load(path: "str | os.PathLike[str]", progress: "Progress | None" = None, *, 
                 progress(len(data), size)
     if digest:
         check_digest(path, data)
-    data = unzipped(path, data, MAX_FILE + 1)
+    plain = unzipped(path, data, MAX_FILE + 1)
     with naming(path):
-        return loads(data)
+        return loads(data if plain is None else plain)
 
 
 def loads(data: "bytes | bytearray") -> Scene:

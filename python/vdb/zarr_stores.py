@@ -148,13 +148,15 @@ class Volume(NamedTuple):
         shown, store, part = values != self.form.background, store_of(self.path), self.form.chunks(box)
         states, here = shown if active is None else active, slices(box, self.form.low)[::-1]
         with naming(self.path):
-            self._array(store, 0)[here] = values.T
-            if active is not None and not np.array_equal(states, shown):
-                self._array(store, 1)[here] = (states ^ shown).T
-            ends = [np.flatnonzero(states.any(axis=axes))[[0, -1]] for axes in ((1, 2), (0, 2), (0, 1))] if states.any() else []
-            if f"{self.written}/.zgroup" not in store:  # another block failed, and what was written is removed
-                remove(store, self.written)
-            return Entry(box, int(np.count_nonzero(states)), np.transpose(ends) + box[0] if ends else None, self._sums(store, part))
+            try:
+                self._array(store, 0)[here] = values.T
+                if active is not None and not np.array_equal(states, shown):
+                    self._array(store, 1)[here] = (states ^ shown).T
+            finally:
+                if f"{self.written}/.zgroup" not in store:  # another block failed, and what was written is removed
+                    remove(store, self.written)
+        ends = [np.flatnonzero(states.any(axis=axes))[[0, -1]] for axes in ((1, 2), (0, 2), (0, 1))] if states.any() else []
+        return Entry(box, int(np.count_nonzero(states)), np.transpose(ends) + box[0] if ends else None, self._sums(store, part))
 
     def _array(self, store: Any, which: int) -> Any:
         """Returns the array of values (0) or of toggled states (1). Raises ChunksFault if the store has none."""

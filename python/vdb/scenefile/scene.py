@@ -86,9 +86,9 @@ def load(path: "str | os.PathLike[str]", progress: Optional[Progress] = None, *,
     view = memoryview(data)[: len(data) - PADDING]
     if digest:
         check_digest(path, view)
-    found = unzipped(path, view, MAX_FILE + 1)
-    if found is not view:
-        data = found + bytes(PADDING)
+    plain = unzipped(path, view, MAX_FILE + 1)
+    if plain is not None:
+        data = plain + bytes(PADDING)
     return _scene(Reader(data, os.fspath(path), progress))
 
 
