@@ -12,7 +12,7 @@ from .forms import SIDES
 from .reading import Walkable
 
 #: How many leaves are worked on at a time.
-CHUNK = 4096
+CHUNK = 1024
 Step = Tuple[int, int, int]
 
 

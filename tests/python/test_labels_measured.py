@@ -3,6 +3,7 @@
 import itertools
 import subprocess
 import tempfile
+import tracemalloc
 import unittest
 from fractions import Fraction
 from pathlib import Path
@@ -144,7 +145,7 @@ class Measured(unittest.TestCase):
 
     def test_chunks_of_leaves(self):
         values = cells(4, 40, 5)
-        with mock.patch("vdb.labels_items.CHUNK", 3), mock.patch("vdb.labels.CHUNK", 3):
+        with mock.patch("vdb.labels_items.CHUNK", 3):
             self.check(scenefile.Grid.from_array(values), values, values != 0, (0, 0, 0))
 
     def test_many_labels(self):
@@ -179,6 +180,17 @@ class Measured(unittest.TestCase):
 
 @needs_library
 class Components(unittest.TestCase):
+    def test_memory(self):
+        """No call takes more than three times the memory of the grid, whose leaves have 4 bytes a voxel, besides its result."""
+        grid = vdb.Grid.from_array(cells(6, 128, 8))
+        for call in (labels.measure, labels.components):
+            with mock.patch("vdb.labels_items.CHUNK", 128), self.subTest(call.__name__):
+                tracemalloc.start()
+                call(grid)
+                peak = tracemalloc.get_traced_memory()[1]
+                tracemalloc.stop()
+                self.assertLess(peak, 3 * 512 * 4 * grid.leaf_count)
+
     def test_samples(self):
         for name, values, active, low in samples():
             grid = vdb.Grid.from_array(values, active, low, background=values.dtype.type(1))
