@@ -501,6 +501,7 @@ inline Mask open(const Grid &grid, uint32_t iterations = 1) { return detail::cha
 inline Mask close(const Grid &grid, uint32_t iterations = 1) { return detail::changed(grid, true, iterations); }
 
 // Returns the mask of the active voxels and of the holes in it: the voxels from which no path over faces leads out of its bounding box.
+// Throws Error with VDB_ROOT_LIMIT if that has more root blocks than the limit of the grid.
 inline Mask fill_holes(const Grid &grid)
 {
     Mask made(grid);

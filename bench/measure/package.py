@@ -179,10 +179,13 @@ def measures_of(labels):
 
 
 def components_of(labels):
-    """Returns the components of each label, by scipy in the box of each."""
-    made = []
+    """Returns the numbers of the components of each label, by scipy in the box of each."""
+    made, count = np.zeros_like(labels), 0
     for label, part in enumerate(ndimage.find_objects(labels), 1):
-        made.append(ndimage.label(labels[part] == label))
+        if part:
+            found, more = ndimage.label(labels[part] == label)
+            made[part] += np.where(found, found + count, 0)
+            count += more
     return made
 
 

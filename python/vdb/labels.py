@@ -375,6 +375,8 @@ def close(mask: Grid, iterations: int = 1) -> Mask:
 def fill_holes(mask: Grid) -> Mask:
     """Returns the mask of the active voxels and of the holes in it: the voxels from which no path over faces leads out of its bounding box.
 
+    Raises RootLimitError if the bounding box has more root blocks than the limit of the grid.
+
     Examples
     --------
     >>> shell = vdb.Mask.from_array(np.ones((5, 5, 5), bool))
