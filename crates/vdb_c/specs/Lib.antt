@@ -16,4 +16,5 @@ pub mod HeldView
 pub mod Views
 pub mod BoxWrites
 pub mod LeafWrites
+pub mod FromBox
 pub mod Leaves
