@@ -395,7 +395,8 @@ class Session:
 
         name = f"vdb_grid_from_box_{('bool', 'i32', 'i64')[kind]}"
         strides = self.type("vdb_strides", step_x, step_y, step_z)
-        return Step(name, [self.grids[slot], background, limit, argument, byref(strides), values, length], (), [RANGE] if wrong else [], commit, None, [slot])
+        arguments = [self.grids[slot], background, limit, argument, byref(strides), values, length]
+        return Step(name, arguments, (), [RANGE] if wrong else [], commit, None, [slot])
 
     # -- leaves
 

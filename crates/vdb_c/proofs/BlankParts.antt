@@ -1,5 +1,5 @@
 -- Parts of a box whose elements have the background.
-use Rattle.vdb_c.proofs.Common.{◌≡◌, inl, inr, refl, sym, ap, ◌∙◌, subst, Bool, true, false, not, IsTrue, Some, None, Box, is_inside, IsBefore, Coord, Cell, off, IsNextVoxel}
+use Rattle.vdb_c.proofs.Common.{◌≡◌, inl, inr, refl, sym, ◌∙◌, subst, Bool, true, false, not, IsTrue, Some, None, Box, is_inside, IsBefore, Coord, Cell, off, IsNextVoxel}
 use Rattle.vdb_c.specs.FromBox.{cell_of_element}
 use Rattle.vdb_c.proofs.Laid.{false_true}
 use Rattle.vdb_c.proofs.LeafFields.{not_unlike}

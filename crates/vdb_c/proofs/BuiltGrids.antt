@@ -1,5 +1,5 @@
 -- Grids that a call makes of an array's elements.
-use Rattle.vdb_c.proofs.Common.{◌≡◌, ◌<◌, ◌⊎◌, inl, inr, refl, sym, ap, ◌∙◌, subst, ℕ, ℤ, Bool, true, false, not, cond, List, length, slice_get, Option, Some, None, Err, ⊤, vdb, Box, is_inside, Coord, Cell, Kind, Field, as_cell_of, as_field_of, field, off, Layout, field_of, cell_inside, same_cells, TreeRefusal, AnyGrid, Scalar, done, tree_code, place, Strides}
+use Rattle.vdb_c.proofs.Common.{◌≡◌, ◌<◌, ◌⊎◌, inl, inr, refl, sym, ap, ◌∙◌, subst, ℕ, ℤ, Bool, true, false, not, cond, List, length, slice_get, Option, Some, None, Err, ⊤, vdb, Box, is_inside, Kind, Field, as_cell_of, as_field_of, field, off, Layout, field_of, cell_inside, same_cells, TreeRefusal, AnyGrid, Scalar, done, tree_code, place, Strides}
 use Rattle.std.specs.Option.{option_map_or}
 use Rattle.vdb_tree.specs.ConstantBlocks.{roots}
 use Rattle.vdb_tree.specs.declared.refusal.TreeRefusal.TheVariants.{Memory, RootLimit}

@@ -8,7 +8,7 @@ use Rattle.vdb_coord.proofs.BlockOrder.{moved_before}
 use Rattle.vdb_coord.proofs.Nesting.{voxel_from_leaf}
 use Rattle.vdb_coord.proofs.Positions.{offset_below}
 use Rattle.vdb_node.specs.Leaf.{FillsRun, Leaf}
-use Rattle.vdb_tree.specs.ConstantBlocks.{is_background, roots}
+use Rattle.vdb_tree.specs.ConstantBlocks.{roots}
 use Rattle.vdb_tree.specs.Field.{new}
 use Rattle.vdb_tree.specs.Leaves.{with_leaf}
 use Rattle.vdb_tree.specs.Outcome.{IsOutcome}

@@ -1,7 +1,5 @@
-use Rattle.vdb_c.proofs.Common.{◌≡◌, subst, sym, Bool, false, true, ◌&&◌, Err, IsTrue, offset, vdb, block_number, Box, coord_eq, is_inside, Coord, Field, cond, field_of, off, cell_in, Cell, Result, TreeRefusal, IsLeafAround}
-use Rattle.std.specs.Prelude.{OnOk}
+use Rattle.vdb_c.proofs.Common.{◌≡◌, subst, false, true, ◌&&◌, offset, vdb, block_number, Box, coord_eq, is_inside, Coord, Field, cond, field_of, off, cell_in, Result, TreeRefusal}
 use Rattle.vdb_coord.specs.declared.Level.TheVariants.{Leaf as leaf_level}
-use Rattle.vdb_node.specs.Leaf.{Leaf}
 use Rattle.vdb_tree.specs.Leaves.{with_leaf}
 use Rattle.vdb_tree.specs.Outcome.{IsOutcome}
 use Rattle.vdb_c.specs.FromBox.{AreGiven, cell_given}

@@ -1,4 +1,4 @@
-use Rattle.vdb_c.proofs.Common.{◌≡◌, ◌∙◌, ◌+◌, ◌<◌, ap, arith, rules, sym, not, SFits, w32, both, min_inside, length, off, place}
+use Rattle.vdb_c.proofs.Common.{◌∙◌, ◌<◌, ap, arith, rules, sym, not, SFits, w32, both, min_inside, length, off, place}
 use Rattle.vdb_tree.proofs.Uniform.{exact_by}
 use Rattle.vdb_c.specs.FromBox.{cell_given}
 use Rattle.vdb_c.proofs.BlankParts.{blank_cell, blank_first, blank_last, blank_on}

@@ -1,4 +1,4 @@
-use Rattle.vdb_c.proofs.Common.{◌≡◌, ◌∙◌, ◌+◌, ◌<◌, ◌≤◌, ◌^◌, ℕ, ap, arith, rules, SFits, w32, both, min_inside, length, offset, vdb, coord, place}
+use Rattle.vdb_c.proofs.Common.{◌∙◌, ◌<◌, ap, arith, rules, SFits, w32, both, min_inside, length, offset, vdb, place}
 use Rattle.vdb_coord.specs.declared.Level.TheVariants.{Leaf as leaf_level}
 use Rattle.vdb_c.specs.FromBox.{cell_given}
 use Rattle.vdb_c.proofs.GivenLeaves.{given_first, given_last, given_on, next_offset, read_cell}

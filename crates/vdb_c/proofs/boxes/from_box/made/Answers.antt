@@ -1,4 +1,4 @@
-use Rattle.vdb_c.proofs.Common.{◌≡◌, ◌<◌, ◌∙◌, ap, refl, rules, subst, sym, w32, w64, ℕ, SFits, to_z-of_z, as_field_of}
+use Rattle.vdb_c.proofs.Common.{◌<◌, ◌∙◌, ap, refl, rules, subst, sym, w32, w64, ℕ, SFits, to_z-of_z, as_field_of}
 use Rattle.std.proofs.Common.{Err}
 use Rattle.vdb_scene.specs.Scalars.{scalar_eq}
 use Rattle.vdb_c.specs.FromBox.{field_given}
