@@ -187,6 +187,29 @@ public:
     {
         check(vdb_grid_new(&grid_, static_cast<int32_t>(kind), background, limit));
     }
+    // Returns a grid with the values of an array: z fastest and without gaps, unless strides are given. The type of the elements is that of
+    // the grid: bool, int32_t or int64_t. A voxel of the box is active unless its value is the background.
+    template <typename T>
+    static Grid from_box(const Box &box, Span<const T> values, T background = T(), uint32_t limit = VDB_LIMIT_DEFAULT)
+    {
+        return from_box(box, strides_of(box), values, background, limit);
+    }
+    template <typename T>
+    static Grid from_box(const Box &box, const Strides &strides, Span<const T> values, T background = T(), uint32_t limit = VDB_LIMIT_DEFAULT)
+    {
+        static_assert(std::is_same_v<T, bool> || std::is_same_v<T, int32_t> || std::is_same_v<T, int64_t>, "bool, int32_t or int64_t");
+        static_assert(sizeof(bool) == 1, "a bool is a byte");
+        Grid made;
+        const T *data = detail::data_of(values);
+        if constexpr (std::is_same_v<T, bool>)
+            check(vdb_grid_from_box_bool(&made.grid_, background, limit, &box, &strides, reinterpret_cast<const uint8_t *>(data), values.size()));
+        else if constexpr (std::is_same_v<T, int32_t>)
+            check(vdb_grid_from_box_i32(&made.grid_, background, limit, &box, &strides, data, values.size()));
+        else
+            check(vdb_grid_from_box_i64(&made.grid_, background, limit, &box, &strides, data, values.size()));
+        return made;
+    }
+
     Grid(Grid &&other) noexcept : grid_(std::exchange(other.grid_, vdb_grid VDB_GRID_INIT)) {}
     Grid &operator=(Grid &&other) noexcept
     {

@@ -10,13 +10,16 @@ from typing import Iterable, Iterator, Sequence, Tuple
 import numpy as np
 
 from .errors import RangeError
-from .forms import KINDS, Array, Kind, Progress, Value, check_limit, narrow
-from .library import BUFFER, COORD, I64, LIBRARY, Box, Coord, GridHandle, Held, Strides
+from .forms import KINDS, Array, Kind, Progress, Value, check_limit, kind_of_array, narrow
+from .library import BUFFER, COORD, I32, I64, LIBRARY, Box, Coord, GridHandle, Held, Strides
 
 #: How many voxels of a dense array are written at a time, about, and how many are read: their numbers fit the processor's cache.
 SLAB, BRICK = 2**21, 2**18
 #: The accessor of calls on many voxels.
 ACCESSOR = 0
+
+#: The elements of an array of a kind, as the library takes them.
+ELEMENTS = {"bool": BUFFER, "i32": I32, "i64": I64}
 
 #: Eight listed voxels of a row, a byte each.
 WHOLE_ROW = np.uint64(0x0101010101010101)
@@ -152,12 +155,31 @@ def new_grid(kind: Kind, background: "Value | None", limit: int) -> Held:
     return held
 
 
+def from_elements(held: Held, low: Sequence[int], values: np.ndarray, background: Value, limit: int) -> bool:
+    """Makes the grid of an array in one pass, if the array is short or needs no copy for it. Returns whether it did."""
+    kind = kind_of_array(values)
+    if not values.size or values.size > SLAB and not (values.dtype == kind.dtype and values.flags.c_contiguous and values.flags.aligned):
+        return False
+    elements = plain(values, kind.dtype)
+    first = elements.ctypes.data_as(ELEMENTS[kind.word])
+    held.call(f"from_box_{kind.word}", background, int(limit), *place_of(low, tuple(map(slice, (0, 0, 0), values.shape))), first, elements.size)
+    return True
+
+
 def from_dense(
-    held: Held, low: Sequence[int], values: np.ndarray, active: "np.ndarray | None", background: Value, progress: "Progress | None" = None
+    held: Held,
+    low: Sequence[int],
+    values: np.ndarray,
+    active: "np.ndarray | None",
+    background: Value,
+    limit: int,
+    progress: "Progress | None" = None,
 ) -> None:
-    """Writes dense arrays to an empty grid, by the leaf extents that have a voxel which is active or differs from the background. It fills
-    the leaf extents of a mask (bool values without states) that have no background. After each slab it calls `progress` with the number of
-    voxels that are done, and of all."""
+    """Writes dense arrays to an empty grid: in one pass if it can, else by the leaf extents that have a voxel which is active or differs from
+    the background. It then fills the leaf extents of a mask (bool values without states) that have no background. After each slab it calls
+    `progress` with the number of voxels that are done, and of all."""
+    if active is None and progress is None and from_elements(held, low, values, background, limit):
+        return
     is_mask, done = values.dtype == np.bool_ and active is None, 0
     turn = -1 if values.flags.f_contiguous else 1  # an array in column order is cut along z, so that each slab lies in one piece
     for brick in bricks(low[::turn], values.shape[::turn], is_whole=True):

@@ -137,7 +137,7 @@ class Grid(Stored):
         made = cls._of(new_grid(kind_of_array(values), background, limit), metadata)
         low = check_box(origin, values.shape)
         states = None if active is None else check_states(active, values.shape)
-        from_dense(made._held, low, values, states, made.background, progress)
+        from_dense(made._held, low, values, states, made.background, limit, progress)
         return made
 
     @property

@@ -5,6 +5,7 @@
 #include <algorithm>
 #include <array>
 #include <cstdio>
+#include <memory>
 #include <numeric>
 #include <thread>
 #include <unordered_set>
@@ -565,6 +566,49 @@ static void arrays()
     CHECK(code_of([&] { boxed.write_box(box, few); }) == VDB_RANGE && code_of([&] { boxed.write_box(box, {}); }) == VDB_RANGE);
 }
 
+template <typename T> static void from_box_of(T low, T high)
+{
+    const vdb::Box box = {{-9, 6, 7}, {2, 8, 16}};
+    std::unique_ptr<T[]> values(new T[400]);
+    vdb::Grid written(std::is_same_v<T, bool> ? vdb::Kind::boolean : std::is_same_v<T, int32_t> ? vdb::Kind::i32 : vdb::Kind::i64, low, 9);
+    std::fill(values.get(), values.get() + 400, low);
+    std::size_t element = 0;
+    for (int32_t x = -9; x <= 2; x++)
+        for (int32_t y = 6; y <= 8; y++)
+            for (int32_t z = 7; z <= 16; z++, element++)
+                if (x == 2 || (x + y + z) % 3 == 0) {
+                    values[element] = high;
+                    written.set({x, y, z}, high);
+                }
+    written.prune();
+    const vdb::Grid made = vdb::Grid::from_box<T>(box, {values.get(), 360}, low, 9);
+    CHECK(made.kind() == written.kind() && made.background() == low && made.limit() == 9);
+    CHECK(made.count() == written.count() && made.bounds() == written.bounds() && made.leaf_count() == written.leaf_count());
+    for (int32_t x = -10; x <= 3; x++)
+        for (int32_t y = 5; y <= 9; y++)
+            for (int32_t z = 6; z <= 17; z++)
+                CHECK(made.get({x, y, z}) == written.get({x, y, z}));
+    const vdb::Grid spread = vdb::Grid::from_box<T>({{0, 0, 0}, {1, 1, 1}}, {200, 20, 3}, {values.get(), 400}, low);
+    CHECK(spread.get({1, 1, 1}) == (vdb::Cell{values[223], values[223] != low}) && spread.get({1, 1, 2}) == (vdb::Cell{low, false}));
+    CHECK(code_of([&] { vdb::Grid::from_box<T>(box, {values.get(), 359}, low); }) == VDB_RANGE);
+    CHECK(code_of([&] { vdb::Grid::from_box<T>(box, {9, 3, 1}, {values.get(), 400}, low); }) == VDB_RANGE);
+    CHECK(code_of([&] { vdb::Grid::from_box<T>(box, {values.get(), 360}, low, 0); }) == VDB_RANGE);
+    CHECK(code_of([&] { vdb::Grid::from_box<T>({{-5, 0, 0}, {4, 0, 0}}, {values.get(), 10}, high, 1); }) == VDB_ROOT_LIMIT);
+}
+
+static void from_box()
+{
+    from_box_of<bool>(false, true);
+    from_box_of<int32_t>(7, INT32_MIN);
+    from_box_of<int64_t>(-1, INT64_MAX);
+    vdb_grid grid = VDB_GRID_INIT;
+    const vdb_box box = {{0, 0, 0}, {0, 0, 0}};
+    const vdb_strides strides = {1, 1, 1};
+    const int32_t value = 5;
+    CHECK(vdb_grid_from_box_i32(&grid, INT64_C(1) << 31, 1, &box, &strides, &value, 1) == VDB_RANGE);
+    CHECK(vdb_grid_from_box_i32(&grid, 0, 1, &box, &strides, &value, 0) == VDB_RANGE && grid.at == nullptr);
+}
+
 static void leaves()
 {
     vdb::Grid grid(vdb::Kind::i64, -1);
@@ -642,6 +686,7 @@ int main(int, char **argv)
 {
     voxels();
     arrays();
+    from_box();
     leaves();
     views();
     boxes();

@@ -364,6 +364,40 @@ class Session:
 
         return self.on_grid("vdb_grid_read_box", arguments, wrong, [slot], None, [values, states], results)
 
+    def from_box(self):
+        """A grid of the elements of a box of voxels, most of which are the background or another value."""
+        slot, kind = self.chance.randrange(GRIDS), self.chance.choice([0, 1, 1, 2])
+        box = self.wide_box() if self.lattice is VOXELS and self.rarely(0.3) else self.box(small=True)
+        if any(self.lattice.sides[it] > 1 for a, b in zip(*box) for it in range(a, b + 1)):
+            at = self.place()
+            box = at, at
+        background, limit = self.value(kind), self.chance.choice([0, 65537]) if self.rarely() else self.chance.choice([1, 2, 4096])
+        made, places = model.Grid(self.lattice, kind, background, limit), list(model.cells_of(box))
+        argument, wrong = self.box_argument(box)
+        sides = [last - first + 1 for first, last in zip(*box)]
+        step_z = self.chance.choice([1, 1, 2])
+        step_y = sides[2] * step_z + self.chance.choice([0, 0, 5])
+        step_x = sides[1] * step_y - self.rarely()
+        elements = [sum((it - low) * step for it, low, step in zip(at, box[0], (step_x, step_y, step_z))) for at in places]
+        count = max(elements) + 1
+        spans = {0: (0, 255), 1: model.SPANS[1], 2: model.SPANS[2]}[kind]
+        some = [*spans, 0, 1, 5] + [background] * 9 * made.has(background)
+        values = ((c_uint8, c_int32, c_int64)[kind] * count)(*self.chance.choices(some[self.chance.randrange(len(some)) :], k=count))
+        length = self.chance.randrange(count) if self.rarely() else count
+        wrong = wrong or step_x < sides[1] * step_y or length < count or not made.has(background) or not 1 <= limit <= 65536
+
+        def commit():
+            numbers = [int(values[it] != 0) if kind == 0 else values[it] for it in elements]
+            code = made.become({at: (number, number != background) for at, number in zip(places, numbers)})
+            if not code:
+                self.maps[slot] = made
+            return code
+
+        name = f"vdb_grid_from_box_{('bool', 'i32', 'i64')[kind]}"
+        strides = self.type("vdb_strides", step_x, step_y, step_z)
+        arguments = [self.grids[slot], background, limit, argument, byref(strides), values, length]
+        return Step(name, arguments, (), [RANGE] if wrong else [], commit, None, [slot])
+
     # -- leaves
 
     def leaf_count(self):
@@ -696,7 +730,7 @@ class Session:
 
     KINDS_OF_STEP = [
         (set, 30), (get, 25), (fill, 8), (clip, 3), (nodes, 3), (iterate, 2), (combine, 5), (equal, 3), (new, 3), (free, 0.5), (copy, 2), (facts, 2),
-        (count, 2), (bounds, 2), (census, 1), (active, 5), (many, 6), (dense, 6), (leaf_count, 1), (leaves, 3), (parts, 3), (view, 3), (scene_new, 0.5), (scene_load, 0.3), (scene_save, 0.5),
+        (count, 2), (bounds, 2), (census, 1), (active, 5), (many, 6), (dense, 6), (from_box, 3), (leaf_count, 1), (leaves, 3), (parts, 3), (view, 3), (scene_new, 0.5), (scene_load, 0.3), (scene_save, 0.5),
         (scene_names, 1), (scene_put, 0.8), (scene_take, 0.8), (scene_swap, 0.8), (scene_meta, 2),
     ]  # fmt: skip
 

@@ -28,7 +28,7 @@ FUZZ_CALLS = os.environ.get("FUZZ_CALLS", "100000")
 #: The calls that may allocate, each of whose allocations fails in turn, once for each shape of its arguments.
 ALLOCATING = {
     *(f"grid_{it}" for it in ("new copy set set_value set_active fill clip voxelise dilate erode unite subtract intersect maximum minimum sum replace"
-                              " write_many write_box").split()),
+                              " write_many write_box from_box_bool from_box_i32 from_box_i64").split()),
     *("view_new view_share view_copy scene_new scene_load scene_save scene_put scene_take scene_copy scene_meta_set").split(),
 }  # fmt: skip
 #: Those that allocate only if a box or another grid cuts a tile, which is seldom in random calls. The rows make each of these allocate.
@@ -236,14 +236,17 @@ class Headers(unittest.TestCase):
                 self.assertEqual(python_forms(declared[name]), [form_of(it) for it in arguments])
 
     def test_a_call_has_one_name_in_c_cpp_and_python(self):
-        calls = {it.removeprefix("vdb_grid_") for it in Header().calls if it.startswith("vdb_grid_")}
+        calls = {re.sub(r"_(bool|i32|i64)\Z", "", it.removeprefix("vdb_grid_")) for it in Header().calls if it.startswith("vdb_grid_")}
         hpp = re.search(r"^class Grid \{(.*?)^private:", (TOP / "include" / "vdb.hpp").read_text(encoding="utf-8"), re.M | re.S)[1]
         package = "".join((TOP / "python" / "vdb" / it).read_text(encoding="utf-8") for it in ("grid.py", "engine.py", "reading.py"))
         cpp, python = {*re.findall(r"^    (?:[\w:<>]+ )+\*?(\w+)\(", hpp, re.M)}, {*re.findall(r"^    def (\w+)\(", package, re.M)}
-        walks = {f"{turn}_{it}" for turn in ("first", "next") for it in ("active", "leaves")}  # which are the ranges voxels and leaves
-        self.assertEqual(calls - cpp, {"new", "free", "probe", "count_in", *walks})
-        self.assertEqual(calls - python, {"new", "free", "get", "probe", "set", "read_box", *walks})
+        # which are the ranges voxels, leaves and, in C++ alone, parts
+        walks = {f"{turn}_{it}" for turn in ("first", "next") for it in ("active", "leaves", "parts")}
+        self.assertEqual(calls - cpp, {"new", "free", "probe", "count_in", "equal", *walks})
+        self.assertEqual(calls - python, {"new", "free", "get", "probe", "set", "read_box", "from_box", "equal", *walks})
         self.assertLessEqual({"voxels", "leaves"}, cpp & python)
+        self.assertIn("parts", cpp)
+        self.assertTrue("operator==(" in hpp and "__eq__" in python)  # which are equal
 
     @needs("pkg-config")
     def test_the_package_file_gives_the_flags(self):
@@ -292,6 +295,7 @@ PYTHON_TYPES = {
     "*PLACE": ["c_int"] * 3, "*NAMED": ["vdb_scene *", "char *", "c_ulong"], "POINTER(Count)": ["vdb_count *"],
     "*DENSE": ["vdb_box *", "vdb_strides *", "c_long *", "c_ulong", "c_ubyte *", "c_ulong"],
     "*LEAVES": ["vdb_coord *", "c_ulong", "c_long *", "c_ulong", "c_ulong *", "c_ulong", "c_ulong *"],
+    "*PARTS": ["vdb_part *", "c_ulong", "c_ulong *"],
     "POINTER(CensusCounts)": ["vdb_census *"], "c_int32": ["c_int"], "c_int64": ["c_long"], "c_uint32": ["c_uint"], "c_size_t": ["c_ulong"],
 }  # fmt: skip
 

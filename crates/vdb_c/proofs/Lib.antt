@@ -21,6 +21,10 @@ pub mod RowFields
 pub mod CopiedRows
 pub mod LeafCopies
 pub mod LeafFields
+pub mod BlankParts
+pub mod GivenLeaves
+pub mod GivenFields
+pub mod BuiltGrids
 pub mod VoxelCalls
 pub mod SameTrees
 pub mod LoadFaults

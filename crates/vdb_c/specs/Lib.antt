@@ -17,6 +17,7 @@ pub mod HeldView
 pub mod Views
 pub mod BoxWrites
 pub mod LeafWrites
+pub mod FromBox
 pub mod Leaves
 pub mod Equality
 pub mod Parts

@@ -4,9 +4,11 @@
 //! - `elements`, `voxels`: the elements of a box's voxels in an array, and these voxels in order.
 //! - `reading`, `arrays`: a box read into arrays.
 //! - `leaf_writes`, `writes`: a box written from arrays.
+//! - `from_box`: a grid made of a box of an array's elements.
 
 pub(crate) mod arrays;
 pub(crate) mod elements;
+pub(crate) mod from_box;
 pub(crate) mod leaf_writes;
 pub(crate) mod reading;
 pub(crate) mod regions;

@@ -1,0 +1,166 @@
+-- Fields whose voxels a call gives cells leaf by leaf.
+use Rattle.vdb_c.proofs.Common.{◌≡◌, ◌<◌, ◌≤◌, ◌⊎◌, inl, inr, refl, sym, ap, ◌∙◌, subst, ℕ, arith, Bool, true, false, cond, IsTrue, Some, None, Result, Ok, Err, TreeRefusal, block_number, offset, vdb, Box, coord_eq, everywhere, is_inside, IsBlockBefore, Coord, before_not_same, none_before, cell_in, Cell, Field, field, off, Layout, cell_at, field_of, IsLeafAround, cell_inside, same_cells, IsBeside}
+use Rattle.std.specs.Prelude.{OnOk}
+use Rattle.vdb_coord.specs.Walk.{IsNextBlock}
+use Rattle.vdb_coord.specs.declared.Level.TheVariants.{Leaf as leaf_level, Upper}
+use Rattle.vdb_coord.specs.Blocks.{block}
+use Rattle.vdb_coord.proofs.BlockOrder.{moved_before}
+use Rattle.vdb_coord.proofs.Nesting.{voxel_from_leaf}
+use Rattle.vdb_coord.proofs.Positions.{offset_below}
+use Rattle.vdb_node.specs.Leaf.{FillsRun, Leaf}
+use Rattle.vdb_tree.specs.ConstantBlocks.{roots}
+use Rattle.vdb_tree.specs.Field.{new}
+use Rattle.vdb_tree.specs.Leaves.{with_leaf}
+use Rattle.vdb_tree.specs.Outcome.{IsOutcome}
+use Rattle.vdb_tree.proofs.Levels.{like_coords, unlike_coords, coord_cases}
+use Rattle.vdb_tree.proofs.RuledRoots.{fewer_roots}
+use Rattle.vdb_tree.proofs.Uniform.{uniform_cells, uniform_from}
+use Rattle.vdb_c.specs.FromBox.{AreGiven, HasCells}
+use Rattle.vdb_c.proofs.Laid.{either_way, false_true}
+use Rattle.vdb_c.proofs.LeafFields.{Before}
+use Rattle.vdb_c.proofs.NextVoxels.{earlier}
+
+module _ {V : Type 0} (b : Box) (cell : Coord → Cell V) where
+  -- nothing is given
+  pub none_given : (Within : Coord → Type 0) (f : Field V) → ((q : Coord) → Within q → ⊥) → AreGiven b Within cell f f
+  none_given Within f none = record {
+    background = refl;
+    voxels = λ q range k. absurd (none q k);
+    others = λ q range out. refl;
+    either = λ q range. inr refl;
+  }
+
+  -- what is blank is given where the cells are
+  pub blank_given : (p : Coord) (f : Field V) (blank : Cell V) → ((q : Coord) → IsTrue (is_inside everywhere q) → block_number vdb leaf_level q ≡ block_number vdb leaf_level p → f.cell q ≡ blank)
+      → ((q : Coord) → IsBeside b p q → cell q ≡ blank) → AreGiven b (IsBeside b p) cell f f
+  blank_given p f blank was is = record {
+    background = refl;
+    voxels = λ q range beside. was q range beside.1 ∙ sym (is q beside);
+    others = λ q range out. refl;
+    either = λ q range. inr refl;
+  }
+
+  pub given_first : (p : Coord) → p ≡ b.min → (f : Field V) → AreGiven b (Before b p) cell f f
+  given_first p at_min f = none_given (Before b p) f (λ q k. none_before vdb leaf_level b q k.0 (subst (IsBlockBefore vdb leaf_level q) at_min k.1))
+
+  -- a leaf with the cells of p's part of the box in the place of the inactive background
+  module _ (part : Box) (p : Coord) (f : Field V) (old laid : Leaf V) (is : (q : Coord) → IsTrue (is_inside part q) → IsBeside b p q) (all : (q : Coord) → IsBeside b p q → IsTrue (is_inside part q))
+      (around : IsLeafAround vdb f p old) (h : HasCells (λ q. IsTrue (is_inside part q)) cell old laid) where
+    at : (q : Coord) → IsTrue (is_inside everywhere q) → (with_leaf vdb p laid f).cell q
+        ≡ cond (coord_eq (block_number vdb leaf_level p) (block_number vdb leaf_level q)) (cell_in (off f.background) laid (offset vdb leaf_level q)) (f.cell q)
+    at q range = cell_inside f.background (λ r. cond (coord_eq (block_number vdb leaf_level p) (block_number vdb leaf_level r)) (cell_in (off f.background) laid (offset vdb leaf_level r)) (f.cell r)) q range
+
+    in_block : (q : Coord) → IsTrue (is_inside everywhere q) → block_number vdb leaf_level q ≡ block_number vdb leaf_level p → (with_leaf vdb p laid f).cell q ≡ cell_in (off f.background) laid (offset vdb leaf_level q)
+    in_block q range e = at q range ∙ rw (like_coords (block_number vdb leaf_level p) (block_number vdb leaf_level q) (sym e)) refl
+
+    in_part : (q : Coord) → IsTrue (is_inside everywhere q) → IsBeside b p q → (with_leaf vdb p laid f).cell q ≡ cell q
+    in_part q range beside = in_block q range beside.1 ∙ h.voxels (off f.background) q (all q beside)
+
+    elsewhere : (q : Coord) → IsTrue (is_inside everywhere q) → (IsBeside b p q → ⊥) → (with_leaf vdb p laid f).cell q ≡ f.cell q
+    elsewhere q range out = elim (coord_cases (block_number vdb leaf_level q) (block_number vdb leaf_level p)) [
+      | inl e ↦ in_block q range e ∙ h.others (off f.background) (offset vdb leaf_level q) (λ r k same. out (subst (IsBeside b p) (voxel_from_leaf vdb r q ((is r k).1 ∙ sym e) same) (is r k))) ∙ sym (around q range e)
+      | inr d ↦ at q range ∙ rw (unlike_coords (block_number vdb leaf_level p) (block_number vdb leaf_level q) (λ e. d (sym e))) refl
+    ]
+
+    ways : (q : Coord) → IsTrue (is_inside everywhere q) → (IsTrue (is_inside b q) × ((with_leaf vdb p laid f).cell q ≡ cell q)) ⊎ ((with_leaf vdb p laid f).cell q ≡ f.cell q)
+    ways q range = elim (either_way (is_inside b q)) [
+      | inl i ↦ elim (coord_cases (block_number vdb leaf_level q) (block_number vdb leaf_level p)) [
+        | inl e ↦ inl (i, in_part q range (i, e))
+        | inr d ↦ inr (elsewhere q range (λ beside. d beside.1))
+      ]
+      | inr i ↦ inr (elsewhere q range (λ beside. false_true (is_inside b q) i beside.0))
+    ]
+
+    pub leaf_given : AreGiven b (IsBeside b p) cell f (with_leaf vdb p laid f)
+    leaf_given = record { background = refl; voxels = in_part; others = elsewhere; either = ways }
+
+  -- ---- block by block
+
+  module _ (p : Coord) (old mid new : Field V) (first : AreGiven b (Before b p) cell old mid) (second : AreGiven b (IsBeside b p) cell mid new) where
+    voxel : (q : Coord) → IsTrue (is_inside everywhere q) → IsTrue (is_inside b q) → IsBlockBefore vdb leaf_level q p ⊎ (block_number vdb leaf_level q ≡ block_number vdb leaf_level p) → new.cell q ≡ cell q
+    voxel q range i (inl k) = second.others q range (λ beside. before_not_same _ _ k beside.1) ∙ first.voxels q range (i, k)
+    voxel q range i (inr e) = second.voxels q range (i, e)
+
+    other : (q : Coord) → IsTrue (is_inside everywhere q) → (IsBeside b p q → ⊥) → (Before b p q → ⊥) → new.cell q ≡ old.cell q
+    other q range beside before = second.others q range beside ∙ first.others q range before
+
+    pub either_given : (q : Coord) → IsTrue (is_inside everywhere q) → (IsTrue (is_inside b q) × (new.cell q ≡ cell q)) ⊎ (new.cell q ≡ old.cell q)
+    either_given q range = elim (second.either q range) [
+      | inl k ↦ inl k
+      | inr e ↦ elim (first.either q range) [ inl k ↦ inl (k.0, e ∙ k.1) | inr l ↦ inr (e ∙ l) ]
+    ]
+
+    pub given_next : (next : Coord) → IsNextBlock vdb leaf_level b p (Some next) → AreGiven b (Before b next) cell old new
+    given_next next n = record {
+      background = second.background ∙ first.background;
+      voxels = λ q range k. voxel q range k.0 (n.2 q k.0 k.1);
+      others = λ q range out. other q range (λ beside. out (beside.0, moved_before vdb leaf_level p next q n.1 (sym beside.1))) (λ before. out (before.0, earlier (block_number vdb leaf_level q) (block_number vdb leaf_level p) (block_number vdb leaf_level next) before.1 n.1));
+      either = either_given;
+    }
+
+    pub given_last : IsNextBlock vdb leaf_level b p None → AreGiven b (λ q. IsTrue (is_inside b q)) cell old new
+    given_last n = record {
+      background = second.background ∙ first.background;
+      voxels = λ q range i. voxel q range i (n q i);
+      others = λ q range out. other q range (λ beside. out beside.0) (λ before. out before.0);
+      either = either_given;
+    }
+
+  -- ---- in a new field
+
+  module _ (background : V) where
+    abbrev whole : Coord → Cell V
+    whole q = cond (is_inside b q) (cell q) (off background)
+
+    blank : (q : Coord) → IsTrue (is_inside everywhere q) → (new background).cell q ≡ off background
+    blank q range = cell_inside background (λ _. off background) q range
+
+    in_whole : (q : Coord) → IsTrue (is_inside everywhere q) → is_inside b q ≡ true → (field background whole).cell q ≡ cell q
+    in_whole q range i = cell_inside background whole q range ∙ within q i
+      where
+        within : (q : Coord) → is_inside b q ≡ true → whole q ≡ cell q
+        within q i = rw i refl
+
+    -- a leaf extent before which the box is given is still blank
+    pub still_blank : (p : Coord) (f g : Field V) → f ≡ new background → AreGiven b (Before b p) cell f g
+        → (q : Coord) → IsTrue (is_inside everywhere q) → block_number vdb leaf_level q ≡ block_number vdb leaf_level p → g.cell q ≡ off background
+    still_blank p f g e h q range same = h.others q range (λ before. before_not_same _ _ before.1 same) ∙ ap (λ (k : Field V). k.cell q) e ∙ blank q range
+
+    -- the field of a tree, if all is given
+    pub as_given : (f : Field V) (t : Layout V) → f ≡ new background → AreGiven b (λ q. IsTrue (is_inside b q)) cell f (field_of vdb t) → field_of vdb t ≡ field background whole
+    as_given f t e h =
+        ap (λ (v : V). field v (cell_at vdb t)) (h.background ∙ ap (λ (k : Field V). k.background) e)
+        ∙ same_cells background (cell_at vdb t) whole (λ q range. sym (cell_inside t.background (cell_at vdb t) q range) ∙ by q range (either_way (is_inside b q)))
+      where
+        by : (q : Coord) → IsTrue (is_inside everywhere q) → (is_inside b q ≡ true) ⊎ (is_inside b q ≡ false) → (field_of vdb t).cell q ≡ whole q
+        by q range (inl i) = h.voxels q range i ∙ sym (rw i refl)
+        by q range (inr i) = h.others q range (λ k. false_true (is_inside b q) i k) ∙ ap (λ (k : Field V). k.cell q) e ∙ blank q range ∙ sym (rw i refl)
+
+    -- no part of it has more roots
+    module _ (eq : V → V → Bool) (exact : (x y : V) → eq x y ≡ true → x ≡ y) (itself : (x : V) → eq x x ≡ true) where
+      pub part_roots : (f : Field V) (v : V) (cells : Coord → Cell V) → f ≡ new background → v ≡ background
+          → ((q : Coord) → IsTrue (is_inside everywhere q) → (IsTrue (is_inside b q) × ((field v cells).cell q ≡ cell q)) ⊎ ((field v cells).cell q ≡ f.cell q))
+          → roots eq vdb (field v cells) ≤ roots eq vdb (field background whole)
+      part_roots f v cells e same h =
+          fewer_roots eq vdb (field background whole) (field v cells) (λ k flat.
+          uniform_from eq exact itself (field v cells) (block vdb Upper k) (off v) (λ q inside. by q (uniform_cells eq exact itself (field background whole) (block vdb Upper k) (off background) flat q inside) (either_way (is_inside everywhere q))))
+        where
+          by : (q : Coord) → (field background whole).cell q ≡ off background → (is_inside everywhere q ≡ true) ⊎ (is_inside everywhere q ≡ false) → (field v cells).cell q ≡ off v
+          by q flat (inr out) = rw out refl
+          by q flat (inl range) = elim (h q range) [
+            | inl k ↦ k.1 ∙ sym (in_whole q range k.0) ∙ flat ∙ sym (ap (λ (x : V). off x) same)
+            | inr l ↦ l ∙ ap (λ (g : Field V). g.cell q) e ∙ blank q range ∙ sym (ap (λ (x : V). off x) same)
+          ]
+
+-- a leaf of the background has the cells of an extent of the background
+pub blank_leaf : {V : Type 0} (background : V) (p : Coord) (f : Field V) (old leaf : Leaf V) → FillsRun old leaf 0 512 (record { value = background; on = false })
+    → ((q : Coord) → IsTrue (is_inside everywhere q) → block_number vdb leaf_level q ≡ block_number vdb leaf_level p → f.cell q ≡ off background) → IsLeafAround vdb f p leaf
+blank_leaf background p f old leaf filled blank = λ q range same. blank q range same ∙ sym (filled.changed (off f.background) (offset vdb leaf_level q) (omega arith) (offset_below vdb leaf_level q))
+
+-- what holds of the changed field holds after the call, if it succeeded
+pub on_given : {V : Type 0} (eq : V → V → Bool) (limit : ℕ) (old changed new : Field V) (r : Result (Unit {0}) TreeRefusal) (P : Field V → Type 0) → IsOutcome eq vdb limit old changed new r → P changed → OnOk r (P new)
+on_given eq limit old changed new (Ok u) P h k = subst P (sym h.0) k
+on_given eq limit old changed new (Err e) P h k = tt
+
+pub past_limit : (l m n k : ℕ) → m ≡ l → m < n → n ≤ k → l < k
+past_limit l m n k e h le = omega (arith, e, h, le)
