@@ -295,7 +295,7 @@ PYTHON_TYPES = {
     "*PLACE": ["c_int"] * 3, "*NAMED": ["vdb_scene *", "char *", "c_ulong"], "POINTER(Count)": ["vdb_count *"],
     "*DENSE": ["vdb_box *", "vdb_strides *", "c_long *", "c_ulong", "c_ubyte *", "c_ulong"],
     "*LEAVES": ["vdb_coord *", "c_ulong", "c_long *", "c_ulong", "c_ulong *", "c_ulong", "c_ulong *"],
-    "*PARTS": ["vdb_part *", "c_ulong", "c_ulong *"],
+    "*PARTS": ["vdb_part *", "c_ulong", "c_ulong *"], "*ELEMENTS": ["c_long", "c_uint", "vdb_box *", "vdb_strides *"],
     "POINTER(CensusCounts)": ["vdb_census *"], "c_int32": ["c_int"], "c_int64": ["c_long"], "c_uint32": ["c_uint"], "c_size_t": ["c_ulong"],
 }  # fmt: skip
 
