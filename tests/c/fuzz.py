@@ -456,6 +456,9 @@ class Session:
             need(all(order_of(low) > end for (low, _), end in zip(boxes[1:], ends)), "a part begins before the last one ends")
             need(is_first or not ends or ends[0] > order_of(after), "the first part has no voxel past the place")
             for part, (low, high) in zip(found, boxes):
+                side = high[0] - low[0] + 1
+                need(side in (8, 128, 4096) and all(a % side == 0 and b - a + 1 == side for a, b in zip(low, high)), f"{low} to {high} is no cube of a node")
+                need(side == 8 if part.state == 2 else (part.value, part.state) != (grid.background, 0), f"the part at {low}")
                 for _ in range(3):
                     at = tuple(self.chance.randint(a, b) for a, b in zip(low, high))
                     cell = grid.get(tuple(map(self.lattice.at, at)))
