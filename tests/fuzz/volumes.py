@@ -9,6 +9,7 @@ import multiprocessing
 import random
 import re
 import resource
+import shutil
 import signal
 import tempfile
 import warnings
@@ -46,8 +47,27 @@ def seeds(ending, folder):
         grid = vdb.scenefile.Grid.from_array(values, origin=(-1, -1, -1))
         with contextlib.suppress(vdb.VdbError):  # a format may lack a type
             formats.save(path, grid, bounds=((-1, -1, -1), high), dtype=dtype)
-            made.append(path.read_bytes())
-    return made + [raw for text in made for raw in raw_nrrd(text)] if ending != ".nhdr" else detached(seeds(".nrrd", folder), folder)
+            made.append(stored(path) if path.is_dir() else path.read_bytes())
+    if ending == ".nhdr":
+        return detached(seeds(".nrrd", folder), folder)
+    return made + [raw for text in made if isinstance(text, bytes) for raw in raw_nrrd(text)]
+
+
+def stored(folder):
+    """Returns the bytes of the files of a store, by their paths in it."""
+    return {path.relative_to(folder): path.read_bytes() for path in sorted(folder.rglob("*")) if path.is_file()}
+
+
+def write_mutated(chance, path, given):
+    """Writes a mutated file, or a store with one such file."""
+    if isinstance(given, bytes):
+        path.write_bytes(mutated(chance, given))
+        return
+    shutil.rmtree(path, ignore_errors=True)
+    changed = chance.choice([*given])
+    for name, data in given.items():
+        (path / name).parent.mkdir(parents=True, exist_ok=True)
+        (path / name).write_bytes(mutated(chance, data) if name == changed else data)
 
 
 def raw_nrrd(text):
@@ -116,7 +136,7 @@ def read_all(ending, seed, counts, told):
         for number in counts if pool else ():
             told.send(("begun", number, ""))
             chance = random.Random(f"{seed} {ending} {number}")
-            path.write_bytes(mutated(chance, chance.choice(pool)))
+            write_mutated(chance, path, chance.choice(pool))
             told.send(("ended", number, fault_of(path)))
 
 
