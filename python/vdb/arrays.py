@@ -5,7 +5,7 @@ from __future__ import annotations
 import math
 from ctypes import byref, c_int64, c_size_t, c_uint8
 from itertools import product
-from typing import Iterable, Iterator, Sequence, Tuple
+from typing import Any, Iterable, Iterator, Sequence, Tuple
 
 import numpy as np
 
@@ -19,7 +19,7 @@ SLAB, BRICK = 2**21, 2**18
 ACCESSOR = 0
 
 #: The elements of an array of a kind, as the library takes them.
-ELEMENTS = {"bool": BUFFER, "i32": I32, "i64": I64}
+ELEMENTS: "dict[str, Any]" = {"bool": BUFFER, "i32": I32, "i64": I64}
 
 #: Eight listed voxels of a row, a byte each.
 WHOLE_ROW = np.uint64(0x0101010101010101)
@@ -54,7 +54,7 @@ def spans(low: int, length: int, most: int) -> "Iterator[slice]":
         first = end
 
 
-def plain(array: np.ndarray, dtype: "type | None" = None) -> np.ndarray:
+def plain(array: np.ndarray, dtype: "type | np.dtype | None" = None) -> np.ndarray:
     """Returns numbers as the library takes them, of a dtype if one is given: without gaps, and aligned."""
     return np.require(array, dtype, ["C", "A"])
 
@@ -162,7 +162,9 @@ def from_elements(held: Held, low: Sequence[int], values: np.ndarray, background
         return False
     elements = plain(values, kind.dtype)
     first = elements.ctypes.data_as(ELEMENTS[kind.word])
-    held.call(f"from_box_{kind.word}", background, int(limit), *place_of(low, tuple(map(slice, (0, 0, 0), values.shape))), first, elements.size)
+    x, y, z = values.shape
+    place = place_of(low, (slice(0, x), slice(0, y), slice(0, z)))
+    held.call(f"from_box_{kind.word}", background, int(limit), *place, first, elements.size)
     return True
 
 

@@ -40,8 +40,10 @@ def parts_of(held: Held) -> "Iterator[Union[Rows, Cubes]]":
 def active_tiles(held: Held) -> Iterator[Cubes]:
     """Yields the active tiles of the tree, chunk by chunk, those of one side together."""
     parts, copied = (Part * PARTS)(), c_size_t()
-    rows = np.frombuffer(parts, np.dtype([("low", np.int32, 3), ("high", np.int32, 3), ("value", np.int64), ("state", np.int32)], align=True))
-    name, after = "first_parts", ()
+    fields = np.dtype([("low", np.int32, 3), ("high", np.int32, 3), ("value", np.int64), ("state", np.int32)], align=True)
+    rows = np.frombuffer(memoryview(parts).cast("B"), fields)
+    name = "first_parts"
+    after: "tuple[int, ...]" = ()
     while True:
         held.call(name, *after, parts, len(parts), byref(copied))
         if not copied.value:
