@@ -186,7 +186,7 @@ static void equal()
     CHECK(a != b && a == a);
     b.fill({{0, 0, 0}, {15, 15, 15}}, 5);
     CHECK(a == b && b == a);
-    b.voxelise(vdb::everywhere);
+    b.voxelise({{0, 0, 0}, {15, 15, 15}});
     CHECK(a == b && b == a && a.leaf_count() != b.leaf_count());
     b.set({3, 9, 15}, 6);
     CHECK(a != b && b != a);
