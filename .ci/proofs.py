@@ -27,8 +27,7 @@ import threading
 import time
 
 import kept
-from checking import KIT, TOP, command_of, library_of
-from crates import crates_below, named_by
+from crates import KIT, TOP, command_of, crates_below, library_of, named_by
 
 STATIC = "vdb_c"  # the crate that is a static library
 PROOF, OTHER = 3_800_000_000, 2_800_000_000  # the most bytes of a job of a proof, and of another task, measured for the largest crate

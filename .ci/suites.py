@@ -28,6 +28,8 @@ VARIABLES = ("PATH", "HOME", "USER", "LANG", "TERM", "TMPDIR", "VDB_KEPT")
 # what tests compile over OpenVDB: it needs no proof, so it fills the gaps of the proofs
 EARLY = """flock tools/openvdb make -s -j2 -C tools/openvdb all probe sanitized counted &
 flock bench/openvdb make -s -C bench/openvdb unoptimised; wait"""
+# the tests that may be skipped, each as (SUITE, TEST), with the reason beside it
+SKIPS = set()
 # what a release is made of
 BUILT = ("crates/vdb/out/vdb", "crates/vdb_c/out/libvdb_c.a")
 CLOSING = re.compile(r"^(\d+) passed, (\d+) failed(?:, (\d+) skipped)?$", re.M)
@@ -83,8 +85,10 @@ def stages(options):
         [Suite("libvdb", ["tools/build-libvdb"], 1)],
         [
             Suite("edits", ["nice", "-n", "10", "tests/edits/run", "--ci"], 28),
-            Suite("library tests", ["tests/library/run"], 265),
-            Suite("tests of tools/openvdb", ["tests/openvdb/run"], 1),
+            Suite("library tests", ["tests/library/run"], 230),
+            Suite("tests of tools/openvdb", ["tests/openvdb/run", "round_trips", "vdb_files", "notices", "faults", "failures"], 1),
+            Suite("mutated .vdb files", ["tests/openvdb/run", "mutations"], 1),
+            Suite("coverage of tools/openvdb", ["tests/openvdb/run", "counted"], 1),
             Suite("fault injection", ["tests/faults/run"], 100_000),
             Suite("fuzzing", [python, "tests/fuzz/run"], 4_000),
             Suite("planted bugs", [python, "tests/bugs/run", "--ci"], 40),
@@ -94,7 +98,7 @@ def stages(options):
             Suite("tests of rows and of the model", unittest("discover", "-s", "tests/rows"), 11),
             Suite("tests of tools/vdb-run", unittest("tests/tools/test_vdb_run.py"), 23),
             Suite("tests of libvdb", unittest("tests/c/test_libvdb.py"), 28),
-            Suite("tests of limits through C", unittest("tests/c/test_limits.py"), 11),
+            Suite("tests of limits through C", unittest("tests/c/test_limits.py"), 4),
             Suite("tests of tools/install", unittest("tests/tools/test_install.py"), 25),
             Suite("tests of the Python packages", ["tests/reached.py", "python"], 203),
         ],
@@ -116,19 +120,15 @@ def with_numpy():
     return sys.executable
 
 
-def lines_of(name):
-    """The lines of a file of .ci that are no comments."""
-    with open(f"{TOP}/.ci/{name}", encoding="utf-8") as file:
-        return [line.strip() for line in file if line.strip() and not line.startswith("#")]
-
-
 def install():
     """Installs the packages that are missing, if that is possible without asking."""
     def is_missing(name):
         asked = ["dpkg-query", "-W", "-f=${db:Status-Status}", name]
         return not shutil.which("dpkg-query") or subprocess.run(asked, capture_output=True, text=True).stdout != "installed"
 
-    lacking = [name for name in (line.partition(":")[0] for line in lines_of("packages")) if is_missing(name)]
+    with open(f"{TOP}/.ci/packages", encoding="utf-8") as file:
+        needed = [line.partition(":")[0].strip() for line in file if line.strip() and not line.startswith("#")]
+    lacking = [name for name in needed if is_missing(name)]
     may = not os.geteuid() and shutil.which("apt-get")
     for words in [["update"], ["install", "-y", "--no-install-recommends", *lacking]] if lacking and may else []:
         subprocess.run(["apt-get", "-q", *words], stdin=subprocess.DEVNULL, timeout=600)
@@ -165,11 +165,10 @@ def counted(suite, text, status):
         passed = max(0, int(ran[1]) - failed - skipped)
     elif closing:
         passed, failed, skipped = (int(it or 0) for it in closing[-1])
-    listed = {tuple(line.partition(":")[0].rsplit(" ", 1)) for line in lines_of("skips")}
     named = SKIPPED.findall(text)
-    unlisted = [it for it in named if (suite.name, it) not in listed]
+    unlisted = [it for it in named if (suite.name, it) not in SKIPS]
     if unlisted or skipped != len(named):
-        why.append(f"{', '.join(unlisted) or skipped} skipped, which .ci/skips doesn't list")
+        why.append(f"{', '.join(unlisted) or skipped} skipped, which SKIPS of .ci/suites.py doesn't have")
     if status and not failed:
         why.append(f"ended with status {status}")
     elif passed + failed + skipped < suite.least:

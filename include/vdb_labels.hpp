@@ -21,7 +21,6 @@
 #include <cstdlib>
 #include <numeric>
 #include <unordered_map>
-#include <unordered_set>
 
 namespace vdb {
 namespace labels {
@@ -55,15 +54,6 @@ namespace detail {
 
 using Step = std::array<int32_t, 3>;
 
-// A cube of active voxels of one value.
-struct Tile {
-    Coord low;
-    int32_t side;
-    int64_t value;
-};
-
-inline constexpr int32_t sides[] = {8, 128, 4096};
-
 inline void require(bool holds, const char *what)
 {
     if (!holds)
@@ -71,14 +61,12 @@ inline void require(bool holds, const char *what)
 }
 
 inline Step parts(const Coord &at) { return {at.x, at.y, at.z}; }
-inline Coord floor(const Coord &at, int32_t side) { return {at.x & -side, at.y & -side, at.z & -side}; }
-inline Box cube(const Coord &low, int32_t side) { return {low, {low.x + (side - 1), low.y + (side - 1), low.z + (side - 1)}}; }
+inline int32_t side(const Part &tile) { return int32_t(int64_t(tile.box.max.x) - tile.box.min.x + 1); }
 inline uint64_t size(const Box &box)
 {
-    const auto side = [](int32_t first, int32_t last) { return uint64_t(int64_t(last) - first + 1); };
-    return side(box.min.x, box.max.x) * side(box.min.y, box.max.y) * side(box.min.z, box.max.z);
+    const auto length = [](int32_t first, int32_t last) { return uint64_t(int64_t(last) - first + 1); };
+    return length(box.min.x, box.max.x) * length(box.min.y, box.max.y) * length(box.min.z, box.max.z);
 }
-inline bool before(const Coord &a, const Coord &b) { return parts(a) < parts(b); }
 inline bool is_active(const Leaf &leaf, std::size_t voxel) { return leaf.states[voxel >> 6] >> (voxel & 63) & 1; }
 
 // Returns the voxel `by` steps away, if it has coordinates.
@@ -93,81 +81,20 @@ inline std::optional<Coord> moved(const Coord &at, const Step &step, int32_t by)
     return Coord{static_cast<int32_t>(to[0]), static_cast<int32_t>(to[1]), static_cast<int32_t>(to[2])};
 }
 
-// Returns the active tiles of a grid, which has leaves at these places: each step of the walk passes a leaf or a tile.
-inline std::vector<Tile> tiles_of(const Grid &grid, const std::unordered_set<Coord> &leaves)
+inline Coord place(const Coord &leaf, std::size_t voxel)
 {
-    std::array<std::unordered_set<Coord>, 3> with_leaf = {leaves, {}, {}};
-    for (const Coord &leaf : leaves)
-        for (const std::size_t level : {1, 2})
-            with_leaf[level].insert(floor(leaf, sides[level]));
-    // if each cube with a leaf has cells that differ, and no other cube does, then the others are constant
-    const Census census = grid.census();
-    const bool tight = census.leaf == leaves.size(), constant_128 = tight && census.lower == with_leaf[1].size();
-    const bool constant[] = {true, constant_128, tight && census.upper == with_leaf[2].size()};
-    std::vector<Tile> made;
-    vdb_grid *handle = const_cast<Grid &>(grid).handle();
-    Coord at = {0, 0, 0};
-    int64_t value = 0;
-    int32_t found = 0;
-    for (check(vdb_grid_first_active(handle, &everywhere, &at, &value, &found)); found;
-         check(vdb_grid_next_active(handle, &everywhere, &at, &value, &found))) {
-        const Coord low = floor(at, 8);
-        at = cube(low, 8).max;
-        if (leaves.count(low))
-            continue;
-        std::size_t level = 2;
-        while (level && (!constant[level] || with_leaf[level].count(floor(low, sides[level]))))
-            level--;
-        at = cube(low, sides[level]).max;
-        made.push_back({low, sides[level], value});
-        for (; level < 2; level++) { // the parts of a larger cube become one tile, if all are tiles of one value
-            const Box whole = cube(floor(low, sides[level + 1]), sides[level + 1]);
-            const std::size_t count = level ? 32768 : 4096, first = made.size() - std::min(count, made.size());
-            const auto alike = [&](const Tile &tile) { return tile.side == sides[level] && tile.value == value; };
-            if (whole.max != at || made.size() < count || made[first].low != whole.min || !std::all_of(&made[first], made.data() + made.size(), alike))
-                break;
-            made.resize(first);
-            made.push_back({whole.min, sides[level + 1], value});
-        }
-    }
-    return made;
+    const auto part = static_cast<int32_t>(voxel);
+    return {leaf.x + (part >> 6), leaf.y + (part >> 3 & 7), leaf.z + (part & 7)};
 }
 
 // Calls `of_leaf` with each leaf, then `of_tile` with each active tile. All that these calls know of a grid's tree comes from here.
 template <typename OfLeaf, typename OfTile> void each_part(const Grid &grid, OfLeaf &&of_leaf, OfTile &&of_tile)
 {
-    std::unordered_set<Coord> leaves;
-    for (const Leaf &leaf : grid.leaves()) {
-        leaves.insert(leaf.origin);
+    for (const Leaf &leaf : grid.leaves())
         of_leaf(leaf);
-    }
-    for (const Tile &tile : tiles_of(grid, leaves))
-        of_tile(tile);
-}
-
-// Sets the active voxels of a grid to what `value` returns of theirs in a copy, and leaves out those for which it returns none.
-template <typename Value> void write_mapped(const Grid &from, Grid &to, Value &&value)
-{
-    each_part(
-        from,
-        [&](const Leaf &leaf) {
-            std::array<int64_t, 512> values{};
-            std::array<uint8_t, 512> states{};
-            values.fill(to.background());
-            for (std::size_t voxel = 0; voxel < 512; voxel++)
-                if (is_active(leaf, voxel))
-                    if (const std::optional<int64_t> made = value(leaf.values[voxel])) {
-                        values[voxel] = *made;
-                        states[voxel] = 1;
-                    }
-            if (std::any_of(states.begin(), states.end(), [](uint8_t state) { return state != 0; }))
-                to.write_box(cube(leaf.origin, 8), values, states);
-        },
-        [&](const Tile &tile) {
-            if (const std::optional<int64_t> made = value(tile.value))
-                to.fill(cube(tile.low, tile.side), *made);
-        });
-    to.prune();
+    for (const Part &part : grid.parts())
+        if (part.state == 1)
+            of_tile(part);
 }
 
 // The cells of a grid's leaves, voxel by voxel, and of its tiles: 0 if inactive, else 1 + the index of the value among `values`, which rise.
@@ -183,33 +110,31 @@ public:
                 for (std::size_t voxel = 0; voxel < 512; voxel++)
                     cells.push_back(is_active(leaf, voxel) ? number(leaf.values[voxel]) : 0);
             },
-            [&](const Tile &tile) {
-                places_[tile.side == 8 ? 1 : tile.side == 128 ? 2 : 3].emplace(tile.low, tiles.size());
+            [&](const Part &tile) {
+                places_[side(tile) == 8 ? 1 : side(tile) == 128 ? 2 : 3].emplace(tile.box.min, tiles.size());
                 tiles.push_back(tile);
                 cells.push_back(number(tile.value));
             });
         require(cells.size() < UINT32_MAX, "the grid has too many leaves");
-        std::vector<uint32_t> ranks(values.size() + 1);
-        std::vector<int64_t> among = values;
-        std::sort(among.begin(), among.end());
-        for (std::size_t place = 0; place < values.size(); place++)
-            ranks[place + 1] = 1 + static_cast<uint32_t>(std::lower_bound(among.begin(), among.end(), values[place]) - among.begin());
+        std::vector<uint32_t> ranks = {0};
+        const std::vector<int64_t> found = values;
+        std::sort(values.begin(), values.end());
+        for (const int64_t value : found)
+            ranks.push_back(static_cast<uint32_t>(index(value) + 1));
         for (uint32_t &cell : cells)
             cell = ranks[cell];
-        values = std::move(among);
     }
 
     std::vector<Coord> leaves;
-    std::vector<Tile> tiles;
+    std::vector<Part> tiles;
     std::vector<uint32_t> cells;
     std::vector<int64_t> values;
 
     std::size_t voxels() const { return 512 * leaves.size(); }
-    Coord place(std::size_t voxel) const
+    std::size_t index(int64_t value) const { return std::size_t(std::lower_bound(values.begin(), values.end(), value) - values.begin()); }
+    Coord first(std::size_t node) const
     {
-        const Coord low = leaves[voxel >> 9];
-        const auto part = static_cast<int32_t>(voxel & 511);
-        return {low.x + (part >> 6), low.y + (part >> 3 & 7), low.z + (part & 7)};
+        return node < voxels() ? place(leaves[node >> 9], node & 511) : tiles[node - voxels()].box.min;
     }
 
     // Calls use(index, index, step, faces) with each two cells that touch by a step that changes at most `order` coordinates.
@@ -226,10 +151,10 @@ public:
                 of_leaf(leaf, step, use);
         for (std::size_t tile = 0; tile < tiles.size(); tile++)
             for (const Step &step : steps) {
-                const Tile &it = tiles[tile];
-                const std::size_t other = tile_at(moved(it.low, step, it.side), it.side);
-                if (other != none && (tiles[other - voxels()].side > it.side || step > Step{0, 0, 0}))
-                    use(voxels() + tile, other, step, uint64_t(it.side) * uint64_t(it.side));
+                const int32_t length = side(tiles[tile]);
+                const std::size_t other = tile_at(moved(tiles[tile].box.min, step, length), length);
+                if (other != none && (side(tiles[other - voxels()]) > length || step > Step{0, 0, 0}))
+                    use(voxels() + tile, other, step, uint64_t(length) * uint64_t(length));
             }
     }
 
@@ -245,10 +170,12 @@ private:
     // Returns the index of the tile of at least a side that has a voxel, or none.
     std::size_t tile_at(const std::optional<Coord> &at, int32_t least) const
     {
-        for (int level = 0; at && level < 3; level++)
-            if (sides[level] >= least)
-                if (const auto found = places_[level + 1].find(floor(*at, sides[level])); found != places_[level + 1].end())
-                    return voxels() + found->second;
+        for (std::size_t level = 1; at && level < 4; level++) {
+            const int32_t length = level == 1 ? 8 : level == 2 ? 128 : 4096;
+            const auto found = places_[level].find({at->x & -length, at->y & -length, at->z & -length});
+            if (length >= least && found != places_[level].end())
+                return voxels() + found->second;
+        }
         return none;
     }
 
@@ -284,26 +211,56 @@ private:
 
 } // namespace detail
 
+// Returns the active voxels as boxes of one value each: tiles, and runs along z of leaves. Boxes don't overlap.
+inline std::vector<LabelBox> boxes(const Grid &grid)
+{
+    std::vector<LabelBox> made;
+    detail::each_part(
+        grid,
+        [&](const Leaf &leaf) {
+            for (std::size_t voxel = 0; voxel < 512; voxel++) {
+                if (!detail::is_active(leaf, voxel))
+                    continue;
+                const Coord at = detail::place(leaf.origin, voxel);
+                if (voxel % 8 && detail::is_active(leaf, voxel - 1) && leaf.values[voxel - 1] == leaf.values[voxel])
+                    made.back().box.max = at;
+                else
+                    made.push_back({{at, at}, leaf.values[voxel]});
+            }
+        },
+        [&](const Part &tile) { made.push_back({tile.box, tile.value}); });
+    return made;
+}
+
+namespace detail {
+
+// Writes the active voxels of a grid to another one with the value that `value` returns for theirs, and leaves out those for which it returns none.
+template <typename Value> Grid mapped(const Grid &from, Grid made, Value &&value)
+{
+    for (const LabelBox &it : boxes(from))
+        if (const std::optional<int64_t> to = value(it.value))
+            made.fill(it.box, *to);
+    made.prune();
+    return made;
+}
+
+} // namespace detail
+
 // Returns the mask of the active voxels that have one of some values.
 inline Mask select(const Grid &grid, const std::vector<int64_t> &values)
 {
-    Grid made(Kind::boolean, 0, grid.limit());
-    detail::write_mapped(grid, made, [&](int64_t value) {
+    return Mask(detail::mapped(grid, Grid(Kind::boolean, 0, grid.limit()), [&](int64_t value) {
         return std::find(values.begin(), values.end(), value) == values.end() ? std::nullopt : std::optional<int64_t>(1);
-    });
-    return Mask(made);
+    }));
 }
 
 // Returns a copy in which each active voxel whose value is a key has the value of that key.
 inline Grid relabel(const Grid &grid, const std::map<int64_t, int64_t> &pairs)
 {
-    Grid made = grid.copy(), changed(grid.kind(), grid.background(), grid.limit());
-    detail::write_mapped(grid, changed, [&](int64_t value) {
+    return detail::mapped(grid, grid.copy(), [&](int64_t value) {
         const auto found = pairs.find(value);
         return found == pairs.end() ? std::nullopt : std::optional<int64_t>(found->second);
     });
-    made.replace(changed);
-    return made;
 }
 
 // Returns a grid with the active voxels that are active in the mask too. All others are the background, inactive.
@@ -341,28 +298,6 @@ inline void erode_label(Grid &grid, int64_t value, uint32_t iterations = 1)
     grid.subtract(lost);
 }
 
-// Returns the active voxels as boxes of one value each: tiles, and runs along z of leaves. Boxes don't overlap.
-inline std::vector<LabelBox> boxes(const Grid &grid)
-{
-    std::vector<LabelBox> made;
-    detail::each_part(
-        grid,
-        [&](const Leaf &leaf) {
-            for (std::size_t voxel = 0; voxel < 512; voxel++) {
-                if (!detail::is_active(leaf, voxel))
-                    continue;
-                const auto part = static_cast<int32_t>(voxel);
-                const Coord at = {leaf.origin.x + (part >> 6), leaf.origin.y + (part >> 3 & 7), leaf.origin.z + (part & 7)};
-                if (voxel % 8 && detail::is_active(leaf, voxel - 1) && leaf.values[voxel - 1] == leaf.values[voxel])
-                    made.back().box.max = at;
-                else
-                    made.push_back({{at, at}, leaf.values[voxel]});
-            }
-        },
-        [&](const detail::Tile &tile) { made.push_back({detail::cube(tile.low, tile.side), tile.value}); });
-    return made;
-}
-
 // Returns the measures of each label, by rising values. Sums of coordinates are exact below 2^64. Every spacing is above 0.
 inline std::vector<Measure> measure(const Grid &grid, const Spacing &spacing = {1, 1, 1})
 {
@@ -372,34 +307,29 @@ inline std::vector<Measure> measure(const Grid &grid, const Spacing &spacing = {
     const std::size_t count = items.values.size();
     const double total = spacing[0] * spacing[1] * spacing[2];
     std::vector<Measure> made(count);
-    std::vector<std::array<uint64_t, 3>> faces(count + 1);
-    std::vector<std::array<long double, 3>> sums(count); // twice the sums past the least corner, since the middle of a tile lies between voxels
+    std::vector<std::array<uint64_t, 3>> inner(count + 1); // of each label the faces along each axis between two of its voxels
+    std::vector<std::array<long double, 3>> sums(count); // twice the sums past the least corner, since the middle of a box may lie between voxels
     std::map<std::pair<uint32_t, uint32_t>, std::array<uint64_t, 3>> touching;
     const detail::Step origin = detail::parts(grid.bounds().value_or(Box{}).min);
-    for (std::size_t node = 0; node < items.cells.size(); node++) {
-        const uint32_t cell = items.cells[node];
-        if (cell == 0)
-            continue;
-        const bool of_leaf = node < items.voxels();
-        const int32_t side = of_leaf ? 1 : items.tiles[node - items.voxels()].side;
-        const Box box = detail::cube(of_leaf ? items.place(node) : items.tiles[node - items.voxels()].low, side);
-        Measure &it = made[cell - 1];
+    for (const auto &[box, value] : boxes(grid)) {
+        Measure &it = made[items.index(value)];
         const Box &old = it.voxels == 0 ? box : it.bounds;
         it.bounds = {{std::min(old.min.x, box.min.x), std::min(old.min.y, box.min.y), std::min(old.min.z, box.min.z)},
                      {std::max(old.max.x, box.max.x), std::max(old.max.y, box.max.y), std::max(old.max.z, box.max.z)}};
-        const uint64_t face = uint64_t(side) * uint64_t(side);
-        it.voxels += face * uint64_t(side);
+        it.voxels += detail::size(box);
         for (std::size_t axis = 0; axis < 3; axis++) {
-            const int64_t middle = 2 * (int64_t(detail::parts(box.min)[axis]) - origin[axis]) + side - 1;
-            sums[cell - 1][axis] += static_cast<long double>(middle) * static_cast<long double>(face * uint64_t(side));
-            faces[cell][axis] += 2 * face;
+            const int64_t middle = int64_t(detail::parts(box.min)[axis]) + detail::parts(box.max)[axis] - 2 * int64_t(origin[axis]);
+            sums[items.index(value)][axis] += static_cast<long double>(middle) * static_cast<long double>(detail::size(box));
         }
     }
+    for (const Part &tile : items.tiles)
+        for (uint64_t &faces : inner[items.index(tile.value) + 1])
+            faces += uint64_t(detail::side(tile) - 1) * uint64_t(detail::side(tile)) * uint64_t(detail::side(tile));
     items.contacts(1, [&](std::size_t one, std::size_t other, const detail::Step &step, uint64_t each) {
         const std::size_t axis = step[0] ? 0 : step[1] ? 1 : 2;
         const uint32_t first = items.cells[one], second = items.cells[other];
         if (first == second)
-            faces[first][axis] -= 2 * each;
+            inner[first][axis] += each;
         else if (first && second)
             touching[std::minmax(first, second)][axis] += each;
     });
@@ -412,7 +342,7 @@ inline std::vector<Measure> measure(const Grid &grid, const Spacing &spacing = {
             const int64_t side = int64_t(detail::parts(it.bounds.max)[axis]) - detail::parts(it.bounds.min)[axis] + 1;
             it.centroid[axis] = static_cast<double>(middle);
             it.extent[axis] = static_cast<double>(side) * spacing[axis];
-            it.area += static_cast<double>(faces[label + 1][axis]) * (total / spacing[axis]);
+            it.area += static_cast<double>(2 * (it.voxels - inner[label + 1][axis])) * (total / spacing[axis]);
         }
     }
     for (const auto &[pair, counts] : touching)
@@ -445,37 +375,27 @@ inline Grid components(const Grid &grid, int connectivity = 6)
             node = above[node] = above[above[node]];
         return static_cast<uint32_t>(node);
     };
+    const auto before = [&](uint32_t one, uint32_t other) { return detail::parts(items.first(one)) < detail::parts(items.first(other)); };
     items.contacts(connectivity == 6 ? 1 : connectivity == 18 ? 2 : 3, [&](std::size_t one, std::size_t other, const detail::Step &, uint64_t) {
-        if (items.cells[one] && items.cells[one] == items.cells[other])
-            above[top(one)] = top(other);
-    });
-    std::unordered_map<uint32_t, std::pair<Coord, int64_t>> found; // of each top the first voxel, and the number
-    for (std::size_t node = 0; node < items.cells.size(); node++)
-        if (items.cells[node]) {
-            const Coord at = node < items.voxels() ? items.place(node) : items.tiles[node - items.voxels()].low;
-            const auto [it, is_new] = found.emplace(top(node), std::pair(at, 0));
-            if (!is_new && detail::before(at, it->second.first))
-                it->second.first = at;
+        if (items.cells[one] && items.cells[one] == items.cells[other]) {
+            const auto [first, second] = std::minmax({top(one), top(other)}, before);
+            above[second] = first;
         }
-    std::vector<std::pair<Coord, int64_t> *> order;
-    for (auto &it : found)
-        order.push_back(&it.second);
-    std::sort(order.begin(), order.end(), [](const auto *a, const auto *b) { return detail::before(a->first, b->first); });
-    for (std::size_t number = 0; number < order.size(); number++)
-        order[number]->second = static_cast<int64_t>(number + 1);
+    });
+    std::vector<uint32_t> tops;
+    for (uint32_t node = 0; node < items.cells.size(); node++)
+        if (items.cells[node] && above[node] == node)
+            tops.push_back(node);
+    std::sort(tops.begin(), tops.end(), before);
+    std::unordered_map<uint32_t, int64_t> numbers;
+    for (const uint32_t node : tops)
+        numbers.emplace(node, int64_t(numbers.size()) + 1);
     Grid made(Kind::i32, 0, grid.limit());
-    for (std::size_t leaf = 0; leaf < items.leaves.size(); leaf++) {
-        std::array<int64_t, 512> values{};
-        std::array<uint8_t, 512> states{};
-        for (std::size_t voxel = 0; voxel < 512; voxel++)
-            if (items.cells[512 * leaf + voxel]) {
-                values[voxel] = found[top(512 * leaf + voxel)].second;
-                states[voxel] = 1;
-            }
-        made.write_box(detail::cube(items.leaves[leaf], 8), values, states);
-    }
+    for (std::size_t node = 0; node < items.voxels(); node++)
+        if (items.cells[node])
+            made.accessor(0).set(items.first(node), numbers[top(node)]);
     for (std::size_t tile = 0; tile < items.tiles.size(); tile++)
-        made.fill(detail::cube(items.tiles[tile].low, items.tiles[tile].side), found[top(items.voxels() + tile)].second);
+        made.fill(items.tiles[tile].box, numbers[top(items.voxels() + tile)]);
     made.prune();
     return made;
 }

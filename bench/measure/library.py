@@ -32,11 +32,15 @@ CALLS = {
     "maximum": "a copy, tools::compMax",
     "replacement": "tools::compReplace",
     "C, sets": "ValueAccessor::setValue",
-    "C, gets from the root": "Tree::probeValue",
+    "C, gets without": "Tree::probeValue",
     "C, gets": "ValueAccessor::probeValue",
     "C, a box": "tools::copyToDense",
     "C, an array": "tools::copyFromDense",
     "C, leaves": "Tree::cbeginLeaf",
+    "C, fills": "Tree::fill",
+    "C, count": "tools::countActiveVoxels",
+    "C, dilation": "tools::dilateActiveValues",
+    "C++, a loop": "Tree::cbeginValueOn",
 }
 
 # rows whose two sides do not do the same, and why: each pattern is the beginning of a row's name

@@ -1,12 +1,11 @@
 # SPDX-License-Identifier: Apache-2.0
 """Measures the Python package: package.py RUNS SIDE FOLDER. It is run by an interpreter that has NumPy, and prints tables of rows as JSON.
 
-Arrays of SIDE x SIDE x SIDE int32 labels are made grids, also from column order, saved to the folder, loaded and made arrays again, beside
-numpy.save and numpy.load with a copy: spheres of labels, and single voxels at random, as many as fit into a file. The same labels are reported and
-selected, beside a walk over leaves. Twelve organs, and cells that fill an array of half the SIDE, are measured beside scipy on the dense array.
-Cubes of SIDE / 4 without background go into grids, beside a call of the C library. Booleans of the spheres go through OpenVDB's package for
-Python, if it is there. A sparse scene of 10 million voxels is loaded by the package and by `vdb --load`. With a SIDE of 512 it takes about 5 GB
-of memory.
+Arrays of SIDE x SIDE x SIDE int32 labels are made grids, also from column order, beside a copy, and saved to the folder, loaded and made arrays
+again, beside the files of NumPy and zarr: spheres of labels, and single voxels at random, as many as fit into a file. The same labels are reported
+and selected, beside a walk over leaves. Cubes of SIDE / 4 without background go into grids, beside a call of the C library. Booleans of the
+spheres go through OpenVDB's package for Python, if it is there. A sparse scene of 10 million voxels is loaded by the package and by `vdb --load`.
+With a SIDE of 512 it takes about 5 GB of memory.
 """
 import collections
 import json
@@ -20,8 +19,9 @@ sys.path[:0] = [BENCH, f"{os.path.dirname(BENCH)}/python"]
 
 import numpy as np  # noqa: E402
 import vdb  # noqa: E402
-from scipy import ndimage  # noqa: E402
+import zarr  # noqa: E402
 from measure import places  # noqa: E402
+from measure.volumes import size  # noqa: E402
 from vdb import scenefile  # noqa: E402
 from vdb.arrays import write_box  # noqa: E402
 from vdb.walk import leaf_rows  # noqa: E402
@@ -70,7 +70,7 @@ def box_of(array):
 
 def arrays(package, folder, what, labels, runs):
     """Returns the rows of an array: out to a file, and in from it; and those of the grid alone."""
-    dense, scene_file, made, found = f"{folder}/a.npy", f"{folder}/a.vdbs", None, None
+    dense, scene_file, store, made, found = f"{folder}/a.npy", f"{folder}/a.vdbs", f"{folder}/a.zarr", None, None
     columns = np.asfortranarray(labels)  # as files of images have them
 
     def columns_to_grid():
@@ -93,17 +93,22 @@ def arrays(package, folder, what, labels, runs):
 
     def numpy_save():
         np.save(dense, labels)
-        labels.copy()
 
     def numpy_load():
-        np.load(dense).copy()
+        np.load(dense)
 
-    series = {"to a file": measured((save, numpy_save), runs), "from a file": measured((load, numpy_load), runs)}
-    series["to a grid"], series["from a grid"] = measured((to_grid, numpy_save), runs), measured((to_array, numpy_load), runs)
-    series["to a grid from column order"] = measured((columns_to_grid, numpy_save), runs)
+    def zarr_save():
+        zarr.save_array(store, labels)
+
+    def zarr_load():
+        zarr.load(store)
+
+    series = {"to a file": measured((save, numpy_save, zarr_save), runs), "from a file": measured((load, numpy_load, zarr_load), runs)}
+    series["into a grid"], series["out of a grid"] = measured((to_grid, labels.copy), runs), measured((to_array, labels.copy), runs)
+    series["into a grid from column order"] = measured((columns_to_grid, labels.copy), runs)
     if not ((found[0] == labels).all() and (found[1] == (labels != 0)).all()):
         sys.exit(f"package.py: the array of {what} isn't the one that was saved")
-    more = {"Active": f"{100 * np.count_nonzero(labels) / labels.size:.0f} %", "File": f"{os.path.getsize(scene_file) / 1e6:.0f} MB"}
+    more = {"Active": f"{100 * np.count_nonzero(labels) / labels.size:.0f} %", "File": ", ".join(f"{size(it) / 1e6:.1f} MB" for it in (scene_file, dense, store))}
     return [row(f"{what}: {how}", taken, **more) for how, taken in series.items()]
 
 
@@ -138,74 +143,6 @@ def walks(what, grid, runs):
         collections.deque(leaf_rows(grid._held), 0)
 
     return [row(f"{what}: {name}", measured((call, leaves, rows), runs), Leaves=f"{grid.leaf_count:,}") for name, call in calls.items()]
-
-
-def organs(dice, side):
-    """Labels of twelve rough ellipsoids."""
-    made = np.zeros((side,) * 3, np.int32)
-    for label in range(1, 13):
-        radii = dice.integers(side // 14, side // 6, 3)
-        centre = [int(dice.integers(radius + 4, side - radius - 4)) for radius in radii]
-        x, y, z = (axis / radius for axis, radius in zip(np.ogrid[tuple(slice(-radius, radius + 1) for radius in radii)], radii))
-        place = tuple(slice(at - radius, at + radius + 1) for at, radius in zip(centre, radii))
-        made[place][x * x + y * y + z * z + 0.2 * np.sin(20 * x) * np.sin(17 * y) * np.sin(23 * z) < 0.9] = label
-    return made
-
-
-def cells(dice, side, step):
-    """Labels of rough cubes that fill an array, each with its own, about `step` voxels along each axis."""
-    count = side // step
-    numbers = dice.permutation(count**3).astype(np.int32).reshape((count,) * 3) + 1
-    made = np.empty((side,) * 3, np.int32)
-    for at in range(side):
-        x, y, z = (np.minimum(axis + dice.integers(0, 3, (side, side)), side - 1) * count // side for axis in (at, *np.ogrid[:side, :side]))
-        made[at] = numbers[x, y, z]
-    return made
-
-
-def measures_of(labels):
-    """Returns what `measure` finds, by NumPy and scipy: voxels, boxes, centroids, and the faces between two labels."""
-    count = int(labels.max()) + 1
-    voxels, boxes = np.bincount(labels.ravel(), minlength=count)[1:], ndimage.find_objects(labels)
-    middles, areas, pairs = ndimage.center_of_mass(labels != 0, labels, np.arange(1, count)), np.zeros(count), []
-    for axis in range(3):
-        one, other = (np.moveaxis(np.pad(labels, 1), axis, 0)[part] for part in (slice(1, None), slice(None, -1)))
-        differ = one != other
-        least, most = np.minimum(one[differ], other[differ]).astype(np.int64), np.maximum(one[differ], other[differ])
-        codes, counts = np.unique(least * count + most, return_counts=True)
-        areas += np.bincount(codes // count, counts, count) + np.bincount(codes % count, counts, count)
-        pairs.append(codes[codes >= count])
-    return voxels, boxes, middles, areas[1:], pairs
-
-
-def components_of(labels):
-    """Returns the numbers of the components of each label, by scipy in the box of each."""
-    made, count = np.zeros_like(labels), 0
-    for label, part in enumerate(ndimage.find_objects(labels), 1):
-        if part:
-            found, more = ndimage.label(labels[part] == label)
-            made[part] += np.where(found, found + count, 0)
-            count += more
-    return made
-
-
-def measures(what, labels, runs):
-    """Returns the rows of measures, components and morphology beside scipy on the dense array."""
-    grid, mask, spacing = vdb.Grid.from_array(labels), labels == 1, (0.7, 0.7, 1.5)
-    one, kept = grid.select(1), vdb.labels
-    calls = {
-        "measure": (lambda: kept.measure(grid), lambda: measures_of(labels)),
-        "components": (lambda: kept.components(grid), lambda: components_of(labels)),
-        "components of a mask": (lambda: kept.components(vdb.Mask(grid)), lambda: ndimage.label(labels)),
-        "open, 3 iterations": (lambda: kept.open(one, 3), lambda: ndimage.binary_opening(mask, iterations=3)),
-        "close, 3 iterations": (lambda: kept.close(one, 3), lambda: ndimage.binary_closing(mask, iterations=3)),
-        "fill_holes": (lambda: kept.fill_holes(one), lambda: ndimage.binary_fill_holes(mask)),
-        "margin, 8 voxels": (lambda: kept.margin(one, 5.6, spacing), lambda: ndimage.distance_transform_edt(~mask, spacing) <= 5.6),
-    }  # fmt: skip
-    found, (voxels, _, _, areas, _) = kept.measure(grid), measures_of(labels)
-    if not ((found.voxels == voxels).all() and (found.area == areas).all()):
-        sys.exit(f"package.py: the measures of {what} aren't those of NumPy")
-    return [row(f"{what}: {name}", measured(both, runs), Leaves=f"{grid.leaf_count:,}") for name, both in calls.items()]
 
 
 def booleans(mask, runs):
@@ -260,8 +197,6 @@ def main():
         found["files"] += arrays(scenefile, folder, what, labels, runs)
         found["labels"] += walks(what, vdb.Grid.from_array(labels), runs)
     found["blocks"], found["booleans"] = blocks(side // 4, runs), booleans(some != 0, runs)
-    found["measures"] = measures("12 organs", organs(np.random.default_rng(4), side // 2), runs)
-    found["measures"] += measures("touching cells", cells(np.random.default_rng(5), side // 2, 11), runs)
     found["scene"] = sparse(folder, scattered(np.random.default_rng(3), side, min(1, VOXELS / side**3)), runs)
     print(json.dumps(found))
 

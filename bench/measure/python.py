@@ -36,10 +36,11 @@ def printed(program, *numbers):
 def measure(runs, quick):
     side = QUICK_SIDE if quick else SIDE
     found = printed("package.py", runs, side)
+    found["measures"] = printed("labels.py", runs, side)
     found["volumes"] = printed("volumes.py", QUICK_VOLUME_SIDE if quick else VOLUME_SIDE)
     note = (
         f"Cubes of {side} `int32` labels along each axis become a grid and a scene file by `from_array` and `save`, and an array again by `load` and"
-        f" `to_array`, beside `numpy.save`, `numpy.load` and a copy. The files lie in memory. {found['versions']}."
+        f" `to_array`, beside copies of the array, and the files of NumPy, and of zarr on all threads. The files lie in memory. {found['versions']}."
     )
 
     def of(key, title, note, ours, theirs, unit="s", **more):
@@ -48,11 +49,11 @@ def measure(runs, quick):
         return {**made, "failed": [] if rows else ["OpenVDB's package for Python is missing: install python3-openvdb"]}
 
     return [
-        of("files", "arrays", note, "vdb.scenefile", "NumPy"),
-        of("engine", "arrays and the engine", "The same by the engine.", "vdb", "NumPy"),
+        of("files", "arrays", note, "vdb.scenefile", "NumPy", raw="zarr"),
+        of("engine", "arrays and the engine", "The same by the engine.", "vdb", "NumPy", raw="zarr"),
         of("blocks", "dense blocks", "`from_array`, and the calls of `vdb_grid_write_box` alone.", "from_array", "C", "ns per voxel"),
         of("labels", "labels", "Calls on the grids of these labels, and walks over their leaves.", "vdb", "leaves()", raw="leaves as arrays"),
-        of("measures", "labels measured", f"`vdb.labels` on cubes of {side // 2} voxels along each axis, and scipy on the dense array.", "vdb", "scipy"),
+        of("measures", "labels measured", f"Organs in {side}^3 voxels and cells in {side // 2}^3, and NumPy with scipy on the dense array.", "vdb", "scipy"),
         of("booleans", "booleans", "The same spheres as booleans. Its copies of arrays use all threads.", "vdb", "pyopenvdb"),
         of("volumes", "volumes past memory", "Labels of cells in a zarr store on two threads, once. Figures of dask come second.", "vdb.chunks", "dask with SciPy"),
         of("scene", "a scene", "`vdb.scenefile.load` beside a run of `vdb --load`.", "vdb.scenefile", "vdb --load"),

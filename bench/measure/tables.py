@@ -53,7 +53,7 @@ def summary(table):
 
 
 def unlike(table):
-    """Yields why some rows are no comparison of like with like, and are in no count and no mean."""
+    """Yields why some rows compare unlike work, and are excluded from counts and means."""
     whys = {row.get("unlike"): [it["name"] for it in table["rows"] if it.get("unlike") == row.get("unlike")] for row in table["rows"] if row.get("unlike")}
     for why, names in whys.items():
         yield f"- Marked `unlike` and left out of the counts and the mean: {', '.join(names)}. Reason: {why}."

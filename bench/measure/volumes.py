@@ -1,8 +1,8 @@
 # SPDX-License-Identifier: Apache-2.0
 """Measures volumes past memory: volumes.py SIDE FOLDER. It is run by an interpreter that has NumPy, dask, zarr and SciPy, and prints JSON.
 
-A store of SIDE^3 int32 labels of cells, with gaps between them, is written as a volume of vdb.chunks, dilated twice, and its labels are
-counted; and the same by dask.array with scipy.ndimage on the same store. Each call is a process of its own, `volumes.py WHO CALL SIDE FOLDER`,
+A store of SIDE^3 int32 labels of cells, with gaps between them, is written as a volume of vdb.chunks, dilated twice, its labels are counted
+and measured; and the same by dask.array with NumPy and scipy.ndimage on the same store. Each call is a process of its own, `volumes.py WHO CALL SIDE FOLDER`,
 which prints its seconds, those of all processors, its peak of memory in bytes, and a number that both sides must have.
 """
 import json
@@ -53,7 +53,24 @@ def ours(call, folder):
     if call == "write":
         return chunks.from_array(f"{folder}/cells.zarr", f"{folder}/vdb-write.zarr").count
     labels = chunks.open(f"{folder}/vdb-write.zarr")
+    if call == "measure":
+        found = labels.measure((1, 1, 1))
+        return found.area.sum() - found.contacts.sum()  # each face once
     return labels.dilate(2, f"{folder}/vdb-dilate.zarr").count if call == "dilate" else len(labels.labels().values)
+
+
+def measures(array, at):
+    """Voxels and sums of coordinates of the labels of a block, by NumPy. Returns how many faces it and the voxels before it have between two
+    labels."""
+    import numpy as np
+
+    own = tuple(slice(min(1, first), None) for first in at)
+    near = array[tuple(slice(max(0, first - 1), first + BLOCK) for first in at)]
+    _, which, counts = np.unique(near[own], return_inverse=True, return_counts=True)
+    for axis in np.ogrid[tuple(map(slice, near[own].shape))]:
+        np.bincount(which, np.broadcast_to(axis, near[own].shape).ravel(), len(counts))
+    parts = ([slice(None) if other == axis else it for other, it in enumerate(own)] for axis in range(3))
+    return sum(np.count_nonzero(np.diff(near[tuple(part)], axis=axis)) for axis, part in enumerate(parts))
 
 
 def theirs(call, folder):
@@ -64,6 +81,10 @@ def theirs(call, folder):
     from scipy import ndimage
 
     labels = dask.array.from_zarr(f"{folder}/cells.zarr").rechunk(BLOCK)
+    if call == "measure":
+        places = np.ndindex(*[-(-side // BLOCK) for side in labels.shape])
+        array = zarr.open_array(f"{folder}/cells.zarr", mode="r")
+        return sum(dask.compute(*(dask.delayed(measures)(array, [BLOCK * it for it in place]) for place in places)))
     if call == "labels":
         blocks = [dask.delayed(np.unique)(block) for block in labels.to_delayed().ravel()]
         found = np.unique(np.concatenate(dask.compute(*blocks)))
@@ -86,8 +107,8 @@ def one(who, call, folder):
 
 
 def size(path):
-    """The bytes of the files of a store, or 0 if there is none."""
-    return sum(os.path.getsize(os.path.join(place, name)) for place, _, names in os.walk(path) for name in names)
+    """The bytes of a file, or of the files of a store, or 0 if there is none."""
+    return os.path.getsize(path) if os.path.isfile(path) else sum(os.path.getsize(f"{place}/{name}") for place, _, names in os.walk(path) for name in names)
 
 
 def main():
@@ -97,7 +118,7 @@ def main():
     # a process of its own, since the peak of a process is at least that of the one that starts it
     subprocess.run([sys.executable, __file__, "one", "source", str(side), folder], check=True)
     rows = []
-    for call in ("write", "dilate", "labels"):
+    for call in ("write", "dilate", "labels", "measure"):
         found = {}
         for who in ("vdb", "one"):
             words = [sys.executable, __file__, who, call, str(side), folder]

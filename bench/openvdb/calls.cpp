@@ -1,11 +1,13 @@
 // SPDX-License-Identifier: Apache-2.0
-// Calls of the C library, or OpenVDB's, over the same voxels in the same order.
+// Calls of the C library and vdb.hpp, or OpenVDB's, over the same voxels in the same order.
 #include "from_headers.h"
 #include "threads.h"
-#include "vdb.h"
+#include "vdb.hpp"
 
 #include <openvdb/openvdb.h>
+#include <openvdb/tools/Count.h>
 #include <openvdb/tools/Dense.h>
+#include <openvdb/tools/Morphology.h>
 
 #include <malloc.h>
 #include <unistd.h>
@@ -23,6 +25,9 @@ using Sum = long long;
 // How many voxels there are along each axis and in all, and how many leaves they fill.
 constexpr std::uint32_t SIDE = 128, VOXELS = SIDE * SIDE * SIDE, LEAVES = 4096;
 
+// How many boxes are filled, and how often they are counted.
+constexpr std::uint32_t BOXES = 4000, TIMES = 20;
+
 // Does something, and prints how many picoseconds it took by the voxel or the leaf.
 template <typename Work>
 void report(const char* row, const char* unit, std::uint64_t count, Work work) {
@@ -35,45 +40,64 @@ void report(const char* row, const char* unit, std::uint64_t count, Work work) {
 // A grid of 64-bit integers behind the C library.
 class Library {
 public:
-    Library() { check(vdb_grid_new(&grid, VDB_I64, 0, VDB_LIMIT_DEFAULT)); }
-    ~Library() { vdb_grid_free(&grid); }
-
-    void set(const vdb_coord& at, std::int64_t value) { check(vdb_grid_set(&grid, 0, at.x, at.y, at.z, value, 1)); }
+    void set(const vdb_coord& at, std::int64_t value) { check(vdb_grid_set(grid.handle(), 0, at.x, at.y, at.z, value, 1)); }
 
     Sum near(const vdb_coord& at) {
         std::int64_t value;
         std::int32_t active;
-        check(vdb_grid_probe(&grid, 0, at.x, at.y, at.z, &value, &active));
+        check(vdb_grid_probe(grid.handle(), 0, at.x, at.y, at.z, &value, &active));
         return value + active;
     }
 
     Sum get(const vdb_coord& at) {
         std::int64_t value;
         std::int32_t active;
-        check(vdb_grid_get(&grid, at.x, at.y, at.z, &value, &active));
+        check(vdb_grid_get(grid.handle(), at.x, at.y, at.z, &value, &active));
         return value + active;
     }
 
     void set_many(const std::vector<vdb_coord>& at, const std::vector<std::int64_t>& values, const std::vector<std::uint8_t>& states) {
         std::size_t written;
-        check(vdb_grid_write_many(&grid, 0, at.data(), at.size(), values.data(), values.size(), states.data(), states.size(), &written));
+        check(vdb_grid_write_many(grid.handle(), 0, at.data(), at.size(), values.data(), values.size(), states.data(), states.size(), &written));
     }
 
     void get_many(const std::vector<vdb_coord>& at, std::vector<std::int64_t>& values, std::vector<std::uint8_t>& states) {
-        check(vdb_grid_get_many(&grid, 0, at.data(), at.size(), values.data(), values.size(), states.data(), states.size()));
+        check(vdb_grid_get_many(grid.handle(), 0, at.data(), at.size(), values.data(), values.size(), states.data(), states.size()));
     }
 
     void read_box(std::vector<std::int64_t>& values) {
         const vdb_box box = {{0, 0, 0}, {SIDE - 1, SIDE - 1, SIDE - 1}};
         const vdb_strides strides = {SIDE * SIDE, SIDE, 1};
-        check(vdb_grid_read_box(&grid, &box, &strides, values.data(), values.size(), &none, 0));
+        check(vdb_grid_read_box(grid.handle(), &box, &strides, values.data(), values.size(), &none, 0));
     }
 
     void write_box(const std::vector<std::int64_t>& values, const std::vector<std::uint8_t>& states) {
         const vdb_box box = {{0, 0, 0}, {SIDE - 1, SIDE - 1, SIDE - 1}};
         const vdb_strides strides = {SIDE * SIDE, SIDE, 1};
         std::size_t written;
-        check(vdb_grid_write_box(&grid, 0, &box, &strides, values.data(), values.size(), states.data(), states.size(), &written));
+        check(vdb_grid_write_box(grid.handle(), 0, &box, &strides, values.data(), values.size(), states.data(), states.size(), &written));
+    }
+
+    void from_box(const std::vector<std::int64_t>& values) {
+        const vdb_box box = {{0, 0, 0}, {SIDE - 1, SIDE - 1, SIDE - 1}};
+        const vdb_strides strides = {SIDE * SIDE, SIDE, 1};
+        check(vdb_grid_from_box_i64(grid.handle(), 0, VDB_LIMIT_DEFAULT, &box, &strides, values.data(), values.size()));
+    }
+
+    void fill(const vdb_box& box, std::int64_t value) { check(vdb_grid_fill(grid.handle(), &box, value, 1)); }
+
+    Sum count() {
+        vdb_count found;
+        check(vdb_grid_count(grid.handle(), &found));
+        return Sum(found.low);
+    }
+
+    void dilate() { check(vdb_grid_dilate(grid.handle(), 2)); }
+
+    Sum loop() {
+        Sum sum = 0;
+        for (const vdb::Voxel& voxel : grid.voxels()) sum += voxel.value + voxel.at.z;
+        return sum;
     }
 
     Sum leaves() {
@@ -83,18 +107,18 @@ public:
         std::uint64_t states[MOST * 8];
         std::size_t copied;
         Sum sum = 0;
-        check(vdb_grid_first_leaves(&grid, at, MOST, values, MOST * 512, states, MOST * 8, &copied));
+        check(vdb_grid_first_leaves(grid.handle(), at, MOST, values, MOST * 512, states, MOST * 8, &copied));
         while (copied) {
             for (std::size_t k = 0; k < copied * 512; ++k) sum += values[k];
             for (std::size_t k = 0; k < copied * 8; ++k) sum += __builtin_popcountll(states[k]);
             const vdb_coord last = at[copied - 1];
-            check(vdb_grid_next_leaves(&grid, last.x, last.y, last.z, at, MOST, values, MOST * 512, states, MOST * 8, &copied));
+            check(vdb_grid_next_leaves(grid.handle(), last.x, last.y, last.z, at, MOST, values, MOST * 512, states, MOST * 8, &copied));
         }
         return sum;
     }
 
 private:
-    vdb_grid grid = VDB_GRID_INIT;
+    vdb::Grid grid{vdb::Kind::i64};
     std::uint8_t none = 0;
 
     static void check(std::int32_t code) {
@@ -145,6 +169,21 @@ public:
         openvdb::tools::copyFromDense(dense, tree, std::int64_t(0), true);
     }
 
+    void from_box(const std::vector<std::int64_t>& values) { write_box(values, {}); }
+
+    void fill(const vdb_box& box, std::int64_t value) { tree.fill({coord(box.min), coord(box.max)}, value, true); }
+
+    Sum count() { return Sum(openvdb::tools::countActiveVoxels(tree, false)); }
+
+    void dilate() { openvdb::tools::dilateActiveValues(tree, 2, openvdb::tools::NN_FACE, openvdb::tools::EXPAND_TILES, false); }
+
+    Sum loop() {
+        Sum sum = 0;
+        tree.voxelizeActiveTiles(false);
+        for (auto on = tree.cbeginValueOn(); on; ++on) sum += *on + on.getCoord().z();
+        return sum;
+    }
+
     Sum leaves() {
         Sum sum = 0;
         for (auto leaf = tree.cbeginLeaf(); leaf; ++leaf) {
@@ -187,13 +226,25 @@ std::vector<vdb_coord> along_a_walk() {
     return all;
 }
 
+// Boxes with sides of up to 64 voxels.
+std::vector<vdb_box> boxes() {
+    std::vector<vdb_box> all(BOXES);
+    std::mt19937 draws(1);
+    for (vdb_box& box : all)
+        for (auto side : {&vdb_coord::x, &vdb_coord::y, &vdb_coord::z}) {
+            box.min.*side = std::int32_t(draws() % 400);
+            box.max.*side = box.min.*side + std::int32_t(draws() % 64);
+        }
+    return all;
+}
+
 template <typename Grid>
 void run() {
     const std::vector<vdb_coord> ordered = in_order(), walk = along_a_walk();
     std::vector<std::int64_t> values(VOXELS), read(VOXELS);
     std::vector<std::uint8_t> states(VOXELS, 1), seen(VOXELS);
     for (std::uint32_t number = 0; number < VOXELS; ++number) values[number] = number % 1000 + 1;
-    Sum probed = 0, rooted = 0, walked = 0, many = 0, boxed = 0, leaves = 0;
+    Sum probed = 0, rooted = 0, walked = 0, many = 0, boxed = 0, leaves = 0, counted = 0, looped = 0;
     {
         Grid grid;
         report("C, sets by an accessor in order, new leaves", "voxel", VOXELS, [&] {
@@ -231,7 +282,24 @@ void run() {
         report("C, sets of many voxels in order", "voxel", VOXELS, [&] { grid.set_many(ordered, values, states); });
         report("C, sets of many voxels along a random walk", "voxel", VOXELS, [&] { grid.set_many(walk, values, states); });
     }
-    std::printf("sums %lld %lld %lld %lld %lld %lld\n", probed, rooted, walked, many, boxed, leaves);
+    {
+        Grid grid;
+        report("C, an array to a new grid", "voxel", VOXELS, [&] { grid.from_box(values); });
+        report("C++, a loop over active voxels", "voxel", VOXELS, [&] { looped = grid.loop(); });
+    }
+    {
+        Grid grid;
+        const std::vector<vdb_box> filled = boxes();
+        report("C, fills of boxes", "box", BOXES, [&] {
+            for (std::uint32_t number = 0; number < BOXES; ++number) grid.fill(filled[number], number % 4 + 1);
+        });
+        report("C, count of boxes", "count", TIMES, [&] {
+            for (std::uint32_t time = 0; time < TIMES; ++time) counted += grid.count();
+        });
+        report("C, dilation of boxes", "dilation", 1, [&] { grid.dilate(); });
+        counted += grid.count();
+    }
+    std::printf("sums %lld %lld %lld %lld %lld %lld %lld %lld\n", probed, rooted, walked, many, boxed, leaves, counted, looped);
 }
 
 // How many grids of one voxel are made.

@@ -120,7 +120,7 @@ def shot(page):
     """A picture of the page, with the crosshair in the liver and the faces cut open there."""
     browser.SECONDS = 3600
     others = [it for it in browser.FLAGS if not it.startswith("--window-size")]
-    browser.FLAGS = (*others, "--window-size=1080,680", "--disable-accelerated-2d-canvas", "--disable-gpu-rasterization")
+    browser.FLAGS = (*others, "--window-size=1080,750", "--disable-accelerated-2d-canvas", "--disable-gpu-rasterization")
     with browser.Browser() as window:
         window.call("Page.navigate", url=f"file://{page}")
         window.wait("document.documentElement?.dataset.state")
@@ -135,8 +135,10 @@ def main():
     with tempfile.TemporaryDirectory() as folder:
         os.chdir(folder)
         found, affine = labels(), np.diag([SPACING, SPACING, SPACING, 1])
-        nibabel.save(nibabel.Nifti1Image(found, affine), "abdomen.nii.gz")
-        nibabel.save(nibabel.Nifti1Image(gray(found), affine), "ct.nii.gz")
+        for name, array in (("abdomen", found), ("ct", gray(found))):
+            image = nibabel.Nifti1Image(array, affine)
+            image.header.set_xyzt_units("mm")
+            nibabel.save(image, f"{name}.nii.gz")
         label_names.write("abdomen.tsv", {label: label_names.Label(name, colour) for label, (_, name, colour) in ORGANS.items()})
         words = ["view", "abdomen.nii.gz", "abdomen.html", "--beneath", "ct.nii.gz", "--window", "-160", "300"]
         subprocess.run([sys.executable, "-m", "vdb", *words], env={**os.environ, "PYTHONPATH": str(TOP / "python")}, check=True)

@@ -10,7 +10,7 @@
 
 `vdb.Grid` and `vdb.Scene` call the engine by the shared library libvdb, which tools/build-libvdb of the repository builds; without it they raise
 ImportError. `vdb.scenefile` reads and writes scene files without it, by classes of the same names, whose voxels don't change.
-Coordinates are voxels; array axes are x, y, z. All errors are `VdbError`.
+Coordinates are voxels; array axes are x, y, z. The errors of the package itself derive from `VdbError`.
 """
 from . import errors, formats, label_names, labels, scenefile
 from .blocks import Boxes, Labels

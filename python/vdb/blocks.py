@@ -221,6 +221,8 @@ def counted(total: Labels, values: np.ndarray, low: np.ndarray, high: np.ndarray
 def ranks(values: np.ndarray, among: np.ndarray) -> np.ndarray:
     """Returns the index of each value (int64) among rising ones, or another index if it isn't there."""
     least, span = int(among[0]), int(among[-1]) - int(among[0]) + 1
+    if span == len(among):
+        return past(values, least, span - 1)
     if span > SPAN:
         return np.searchsorted(among, values).clip(max=len(among) - 1)
     table = np.zeros(span + 1, np.intp)

@@ -17,11 +17,11 @@ from __future__ import annotations
 import os
 import warnings
 from functools import partial
-from typing import Any, Callable, Mapping, Sequence, Union
+from typing import Any, Callable, Iterator, Mapping, Sequence, Union
 
 import numpy as np
 
-from . import label_names
+from . import label_names, labels as measured
 from .blocks import Labels, grouped, joined
 from .chunk_files import Folder, read_folder
 from .errors import DtypeError, MissingFileError, RangeError, VdbWarning
@@ -52,6 +52,8 @@ __all__ = ["Chunks", "ChunksFault", "open", "from_array", "convert"]
 
 #: A task works on a block of whole chunks, of about so many voxels along each axis.
 BLOCK = 256
+#: The bits of the number of a component of a block, above which is that of the block.
+LOW_BITS = 2**32 - 1
 #: The calls that change states alone.
 OF_STATES = {"dilate", "erode", "unite", "subtract", "intersect"}
 
@@ -71,8 +73,9 @@ class Chunks(Voxels):
     Examples
     --------
     >>> organ = chunks.from_array(np.full((9, 9, 9), 3), "labels.zarr", side=8).select(3, "organ.zarr")
-    >>> organ.dilate(1, "margin.zarr").subtract(organ, "margin.zarr").count
-    486
+    >>> margin = organ.dilate(1, "margin.zarr").subtract(organ, "margin.zarr")
+    >>> margin.count, margin.measure().area.tolist(), margin.components("parts.zarr", 26).measure().voxels.tolist()
+    (486, [1188.0], [486])
     """
 
     _dense = "chunks.to_array(bounds)[0], an array of dask"
@@ -132,7 +135,7 @@ class Chunks(Voxels):
 
     def blocks(self) -> "list[Bounds]":
         """Returns the boxes of the blocks in which calls work, those that hold more than the background. Each is of whole chunks."""
-        return [check_bounds(box) for box in blocks_of(self._source.form, [(self._source, 0)])]
+        return [check_bounds(box) for box in self._boxes()]
 
     def grid(self, bounds: "Sequence[Sequence[int]]") -> Grid:
         """Returns the voxels of a box as a grid, or of what `select` made as a mask."""
@@ -141,12 +144,42 @@ class Chunks(Voxels):
     def map(self, call: "Callable[[Grid], Any]", halo: int = 0) -> "list[Any]":
         """Returns what a call of a grid returns for each of `blocks()`, in their order. The grid has the voxels of the block, and those up to
         `halo` voxels from it. `call` is pickled if processes work."""
-        task = dask.delayed(partial(mapped, call, self._source, halo))
-        return [*run([task(box) for box in blocks_of(self._source.form, [(self._source, 0)])])]
+        return [*each(partial(mapped, call, self._source, halo), self._boxes())]
+
+    def _boxes(self) -> "list[Box]":
+        """Returns the boxes of the blocks that hold more than the background."""
+        return blocks_of(self._source.form, [(self._source, 0)])
 
     def labels(self) -> Labels:
         """Returns the values of active voxels with their numbers and bounding boxes, as `Grid.labels` does."""
         return grouped(joined([Grid(self.kind).labels(), *self.map(Grid.labels)]))
+
+    def measure(self, spacing: "Sequence[float] | None" = None) -> measured.Measures:
+        """Returns the measures of each label, as `vdb.labels.measure` does."""
+        sizes = measured.spacing_of(self.metadata, spacing)
+        found = each(partial(tally_block, self._source), self._boxes())
+        return measured.measures(measured.merged([measured.tally(Grid(self.kind)), *found]), sizes)
+
+    def components(self, folder: Path, connectivity: int = 6) -> "Chunks":
+        """Makes the volume of component numbers that `vdb.labels.components` returns. Until it is written, the folder also has the components
+        of blocks, 64 bits a voxel."""
+        made = measured.components(Grid(self.kind, metadata=self.metadata), connectivity)  # raises the error of a wrong argument
+        source, form = self._source, self._source.form
+        form = form._replace(kind="i32", background=0, is_mask=False, dtype="int32", side=min(self.side, 512)).check()
+        boxes = blocks_of(form, [(source, 0)])
+
+        def compute(target: Volume) -> "Sequence[Entry | None]":
+            parts = target.beside("i64")
+            found = each(partial(number_block, source, connectivity, parts), boxes, [at << 32 for at in range(len(boxes))])
+            for entry, _ in found:
+                parts.sums[parts.form.chunks(entry.box)] = entry.sums
+            pairs = np.concatenate([np.zeros((0, 2), np.int64), *each(partial(join_block, source, connectivity, parts), boxes)])
+            counts = np.array([len(firsts) for _, firsts in found], np.int64)
+            nodes = (np.cumsum(counts) - counts)[pairs >> 32] + (pairs & LOW_BITS) - 1
+            ranks, _ = measured.ranked([*nodes.T], np.concatenate([np.zeros((0, 3), np.int32), *(firsts for _, firsts in found)]))
+            return each(partial(renumber_block, parts, target), boxes, np.split(ranks, np.cumsum(counts)))
+
+        return written(folder, form, made.metadata, {}, compute)
 
     def to_array(self, bounds: "Sequence[Sequence[int]] | None" = None, fill: "Value | None" = None) -> "tuple[Any, Any]":
         """Returns the values and the states (bool) of a box as arrays of dask, which read the store when they are computed. Bounds and fill
@@ -233,8 +266,7 @@ class Chunks(Voxels):
         boxes = blocks_of(form, [(source, halo if grows else 0), *([(grows._source, halo)] if grows else [])])
 
         def compute(target: Volume) -> "Sequence[Entry | None]":
-            task = dask.delayed(partial(change_block, source, other and other._source, name, arguments, halo, target))
-            return run([task(it) for it in boxes])
+            return each(partial(change_block, source, other and other._source, name, arguments, halo, target), boxes)
 
         return written(folder, form, metadata, self.names if made.kind == self.kind else {}, compute)
 
@@ -324,12 +356,15 @@ def arrays_of(source: Source, box: Box) -> "tuple[np.ndarray, np.ndarray]":
     return values, values != source.form.background if active is None else active
 
 
-def grid_of(source: Source, box: Box) -> Grid:
-    """Returns the voxels of a box as a grid or a mask."""
+def grid_of(source: Source, box: Box, is_turned: bool = False) -> Grid:
+    """Returns the voxels of a box as a grid or a mask, with the axes of the store, z, y, x, if it is turned. Then no array is copied."""
     values, active = source.read(box)
+    origin = box[0]
+    if is_turned:
+        values, active, origin = values.T, None if active is None else active.T, origin[::-1]
     if source.form.is_mask:
-        return Mask.from_array(values, origin=box[0])
-    return Grid.from_array(values, active, box[0], source.form.background)
+        return Mask.from_array(np.ascontiguousarray(values), origin=origin)
+    return Grid.from_array(np.ascontiguousarray(values, KINDS[source.form.kind].dtype), active, origin, source.form.background)
 
 
 def mapped(call: "Callable[[Grid], Any]", source: Source, halo: int, box: Box) -> Any:
@@ -360,24 +395,77 @@ def read_block(source: Source, low: Coordinate, fill: "Value | None", which: int
 def change_block(
     source: Source, other: "Source | None", name: str, arguments: tuple, halo: int, target: Volume, box: Box
 ) -> "Entry | None":
-    """Writes a block of a volume to another one, changed."""
-    near = grown(box, halo)
+    """Writes a block of a volume to another one, changed. Its grids are turned, since no call here tells the axes apart."""
+    near, turned = grown(box, halo), box[:, ::-1]
+    here = slices(turned, (0, 0, 0))
     if name in OF_STATES:  # then no value goes into a grid
         values, active = arrays_of(source, near)
-        second = Grid.from_array(arrays_of(other, box)[1], origin=box[0]) if other else None
-        states = called(name, arguments, Grid.from_array(active, origin=near[0]), second).active[slices(box, (0, 0, 0))]
+        second = Grid.from_array(arrays_of(other, box)[1].T, origin=turned[0]) if other else None
+        states = called(name, arguments, Grid.from_array(active.T, origin=near[0][::-1]), second).active[here].T
         return target.write(box, states if source.form.is_mask else values[slices(box, near[0])], states)
-    made = called(name, arguments, grid_of(source, near), None)
+    made = called(name, arguments, grid_of(source, near, is_turned=True), None)
     if target.form.is_mask:
-        return target.write(box, made[slices(box, (0, 0, 0))])
-    shape, dtype = sides(box)[::-1], np.dtype("bool" if made.kind == "bool" else target.form.dtype)  # the store has the axes z, y, x
-    return target.write(box, *made.to_array(box, out=(np.empty(shape, dtype).T, np.empty(shape, np.bool_).T)))
+        return target.write(box, made[here].T)
+    dtype = np.dtype("bool" if made.kind == "bool" else target.form.dtype)
+    values, active = made.to_array(turned, dtype=dtype)
+    return target.write(box, values.T, active.T)
+
+
+def low_sides(form: Form, box: Box, halo: int) -> "Iterator[tuple[int, Box]]":
+    """Yields each axis along which another block may come before a block, and the box of the first plane of this one and the last of that one.
+    Across that axis it goes up to `halo` voxels past the block."""
+    for axis in np.flatnonzero(box[0] > form.low):
+        side = grown(box, halo)
+        side[:, axis] = box[0][axis] - 1, box[0][axis]
+        yield axis, side
+
+
+def tally_block(source: Source, box: Box) -> measured.Tally:
+    """Returns what is added up of a block, and of the faces between it and those before it."""
+    made = [measured.tally(grid_of(source, box))]
+    for axis, side in low_sides(source.form, box, 0):
+        labels, sums, pairs, faces = measured.tally(grid_of(source, side))
+        across = faces[:, axis] > 0
+        none = Labels(*(column[:0] for column in labels))
+        made.append(measured.Tally(none, sums[:0], pairs[across], faces[across] * (np.arange(3) == axis)))
+    return measured.merged(made)
+
+
+def number_block(source: Source, connectivity: int, parts: Volume, box: Box, first: int) -> "tuple[Entry, np.ndarray]":
+    """Writes the components of a block, with numbers past the first one. Returns also the first voxel of each."""
+    made, firsts = measured.numbered(grid_of(source, box), connectivity)
+    numbers = made.to_array(box, dtype=np.int64)[0]
+    numbers[numbers > 0] += first
+    return parts.write(box, numbers), firsts
+
+
+def join_block(source: Source, connectivity: int, parts: Volume, box: Box) -> np.ndarray:
+    """Returns the pairs of components of blocks (n x 2) that join where a block meets those before it."""
+    found = [np.zeros((0, 2), np.int64)]
+    for _, side in low_sides(source.form, box, 1):
+        joined = measured.components(grid_of(source, side), connectivity).to_array(side)[0].ravel()
+        both = np.stack([joined, parts.read(side)[0].ravel()])[:, joined > 0]
+        rows = np.unique(both[:, (np.diff(both, prepend=0) != 0).any(axis=0)].T, axis=0)  # most voxels are as the one before
+        same = rows[1:, 0] == rows[:-1, 0]
+        found.append(np.stack([rows[:-1, 1][same], rows[1:, 1][same]], axis=1))
+    return np.concatenate(found)
+
+
+def renumber_block(parts: Volume, target: Volume, box: Box, ranks: np.ndarray) -> Entry:
+    """Writes a block of components of blocks with other numbers, by the numbers that they have in the block."""
+    return target.write(box, np.append(0, ranks).astype(np.int32)[parts.read(box)[0] & LOW_BITS])
 
 
 def called(name: str, arguments: tuple, grid: Grid, other: "Grid | None") -> Grid:
     """Returns what a call of a grid returns, or the grid if that is changed by it, with another one as the last argument if it is given."""
     made = getattr(grid, name)(*arguments, *([] if other is None else [other]))
     return grid if made is None else made
+
+
+def each(call: "Callable[..., Any]", *arguments: "Sequence[Any]") -> "Sequence[Any]":
+    """Returns what a call returns for each of some arguments, computed by dask."""
+    task = dask.delayed(call)
+    return run([task(*it) for it in zip(*arguments)])
 
 
 def run(collections: "Sequence[Any]") -> "Sequence[Any]":

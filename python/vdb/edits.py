@@ -38,14 +38,26 @@ def write_cubes(held: Held, cubes: Cubes) -> None:
         held.call("fill", byref(box_of(low, past)), value, 1)
 
 
+def fill_active(held: Held, painted: Held, area: Held, cubes: Cubes) -> None:
+    """Sets the voxels of cubes that are active in another grid to the values of the cubes, and activates them. `painted` is a grid of this
+    type that was never written. A fill takes less than a write of 512 voxels."""
+    if len(cubes.low):
+        write_cubes(painted, cubes)
+        painted.call_with("intersect", area)
+        held.call_with("replace", painted)
+
+
 def strips(cubes: Cubes) -> Boxes:
-    """Returns cubes as boxes: those that follow one another along z and have one value are one box."""
-    low, side, values = cubes
-    begins = np.ones(len(low), np.bool_)
-    begins[1:] = (low[1:] - low[:-1] != (0, 0, side)).any(axis=1) | (values[1:] != values[:-1])
-    ends = np.ones(len(low), np.bool_)
-    ends[:-1] = begins[1:]
-    return Boxes(low[begins], low[ends] + np.int32(side - 1), values[begins])
+    """Returns cubes as boxes: those that follow one another along z, and then along y, and have one value are one box."""
+    low, high, values = cubes.low, cubes.low + np.int32(cubes.side - 1), cubes.values
+    for axis, others in ((2, [0, 1]), (1, [0, 2])):
+        order = np.lexsort([low[:, axis], *high.T[others], *low.T[others]])
+        low, high, values = low[order], high[order], values[order]
+        begins = np.ones(len(low) + 1, np.bool_)
+        begins[1:-1] = (low[1:, axis] != high[:-1, axis] + 1) | (values[1:] != values[:-1])
+        begins[1:-1] |= ((low[1:] != low[:-1]) | (high[1:] != high[:-1]))[:, others].any(axis=1)
+        low, high, values = low[begins[:-1]], high[begins[1:]], values[begins[:-1]]
+    return Boxes(low, high, values)
 
 
 def is_one_of(values: np.ndarray, wanted: np.ndarray) -> np.ndarray:

@@ -10,7 +10,7 @@ import numpy as np
 from . import images
 from .arrays import box_of, new_grid, read_box, read_voxels
 from .blocks import Cubes, Part
-from .edits import is_one_of, write_cubes, write_leaves
+from .edits import fill_active, is_one_of, write_cubes, write_leaves
 from .encoded import EVERYWHERE
 from .forms import KINDS, Array, Bounds, Coordinate, Leaf, Value, check_bounds
 from .library import Box, CensusCounts, Coord, Count, Held
@@ -144,24 +144,21 @@ class Stored(Walkable):
 
     def _mask(self, is_chosen: "Callable[[np.ndarray], np.ndarray]") -> "Mask":
         """Returns the mask of the active voxels whose values (int64, of any shape) are chosen."""
-        from .mask import Mask, mask_of
+        from .mask import Mask
 
-        made = new_grid(KINDS["bool"], False, self.limit)
-        is_most = None
+        made, whole = new_grid(KINDS["bool"], False, self.limit), [np.zeros((0, 3), np.int32)]
         for part in self._parts():
             chosen = is_chosen(part.values)
-            active = np.ones(chosen.shape, np.bool_) if isinstance(part, Cubes) else part.active
-            if is_most is None:  # then the other voxels are written, and taken away from all
-                is_most = bool(2 * np.count_nonzero(chosen & active) > np.count_nonzero(active))
-            chosen = active & (chosen != is_most)
             if isinstance(part, Cubes):
                 write_cubes(made, Cubes(part.low[chosen], part.side, np.ones(np.count_nonzero(chosen), np.int64)))
-            else:
-                some = chosen.any(axis=1)
-                written = chosen[some]
-                write_leaves(made, part.origins[some], written, written)
-        if is_most:
-            made = mask_of(self._handle(), without=made)
+                continue
+            chosen &= part.active
+            some, every = chosen.any(axis=1), (chosen == part.active).all(axis=1)
+            written = chosen[some & ~every]
+            write_leaves(made, part.origins[some & ~every], written, written)
+            whole.append(part.origins[some & every])
+        lows = np.concatenate(whole)
+        fill_active(made, new_grid(KINDS["bool"], False, self.limit), self._handle(), Cubes(lows, 8, np.ones(len(lows), np.int64)))
         made.call("prune")
         return Mask._of(made, images.kept(self._metadata, KINDS["bool"].dtype))
 

@@ -12,7 +12,7 @@
     FileNotFoundError  MissingFileError
     PermissionError    ForbiddenFileError
 
-A call that fails has changed no voxel, unless its documentation says otherwise. What a call does all the same it warns of by `VdbWarning`.
+A call that fails has changed no voxel, unless its documentation says otherwise. A call that succeeds and leaves something out warns by `VdbWarning`.
 """
 from __future__ import annotations
 
@@ -27,7 +27,7 @@ __all__ = [
 
 
 class VdbError(Exception):
-    """Base of every error that the package raises, but for errors of Python itself.
+    """The base class of the package's own errors.
 
     `code` is the code of libvdb in vdb.h, or None if the library wasn't asked.
     """
@@ -132,7 +132,7 @@ class DigestError(VdbError, ValueError):
 
 
 class VdbWarning(UserWarning):
-    """A call does what it is asked for, and something of a grid isn't in the result. The text says what."""
+    """A call succeeds, and its result lacks something of a grid. The text says what."""
 
 
 class FileError(VdbError, OSError):

@@ -10,7 +10,7 @@ import numpy as np
 from . import images
 from .arrays import box_of, coordinates_of, from_dense, new_grid, write_box, write_voxels
 from .blocks import Cubes
-from .edits import mapped, write_cubes, write_leaves
+from .edits import fill_active, mapped, write_cubes, write_leaves
 from .encoded import apart, copied, packed, unpacked
 from .engine import NO_ACCESSOR, Census, Stored, box
 from .errors import DtypeError, RangeError
@@ -220,8 +220,8 @@ class Grid(Stored):
         self._held.call("voxelise", box(bounds))
 
     def dilate(self, iterations: int = 1, progress: "Progress | None" = None, value: "Value | None" = None) -> None:
-        """Activates, in each of 1 to 16 iterations, every voxel that has an active face neighbour. No value changes, unless the voxels that
-        it activates are to have a `value`.
+        """Activates, in each of 1 to 16 iterations, every voxel that has an active face neighbour. Values change only if `value` is given:
+        a voxel that it activates gets it then.
 
         After each iteration it calls `progress(done, iterations)`, if that is given. The iterations are made on a copy of the grid: if one is
         interrupted by Ctrl-C or an exception of `progress`, nothing changes.
@@ -261,15 +261,22 @@ class Grid(Stored):
         order = np.argsort(old)
         old, new = old[order], new[order]
         made = Grid._of(copied(self._held), self._metadata)
+        whole = [Cubes(np.zeros((0, 3), np.int32), 8, np.zeros(0, np.int64))]
         for part in self._parts():
             after = mapped(part.values, old, new)
             if isinstance(part, Cubes):
                 changed = after != part.values
                 write_cubes(made._held, Cubes(part.low[changed], part.side, after[changed]))
-            else:
-                after = np.where(part.active, after, part.values)
-                some = (after != part.values).any(axis=1)
-                write_leaves(made._held, part.origins[some], after[some], None)
+                continue
+            some = ((after != part.values) & part.active).any(axis=1)
+            origins, active, after, values = part.origins[some], part.active[some], after[some], part.values[some]
+            first = after[np.arange(len(after)), active.argmax(axis=1)]
+            is_one = ((after == first[:, None]) | ~active).all(axis=1)
+            whole.append(Cubes(origins[is_one], 8, first[is_one]))
+            write_leaves(made._held, origins[~is_one], np.where(active, after, values)[~is_one], None)
+        lows, _, values = zip(*whole)
+        cubes = Cubes(np.concatenate(lows), 8, np.concatenate(values))
+        fill_active(made._held, new_grid(self._kind, self.background, self.limit), self._held, cubes)
         made.prune()
         return made
 
@@ -296,7 +303,7 @@ class Grid(Stored):
             self._held.call_with("replace", grown)
 
     def erode_label(self, value: Value, iterations: int = 1) -> None:
-        """Shrinks one label, in 1 to 16 iterations: in each, every active voxel of the label with a face neighbour that is none becomes the
+        """Shrinks one label, in 1 to 16 iterations: in each, every active voxel of the label with a face neighbour outside it becomes the
         background, inactive. Voxels of other values stay."""
         count, label = _iterations(iterations), self._kind.check(value)
         with self._held.lock:
@@ -368,7 +375,7 @@ class Grid(Stored):
         return self.copy().__isub__(other)
 
     def __xor__(self: G, other: "Grid") -> G:
-        """Returns a copy that is active where one of the two grids is, and not both."""
+        """Returns a copy that is active where exactly one of the two grids is."""
         return (self | other).__isub__(self & other)
 
     def __invert__(self) -> "Grid":

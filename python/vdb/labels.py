@@ -20,14 +20,15 @@ from typing import TYPE_CHECKING, Iterator, Mapping, NamedTuple, Sequence
 import numpy as np
 
 from . import images
-from .arrays import fill_boxes, write_box
-from .blocks import OFFSETS, Cubes, Rows, places
-from .edits import strips, write_cubes, write_leaves
+from .arrays import fill_boxes, new_grid, write_box
+from .blocks import OFFSETS, Cubes, Labels, Rows, first_of, grouped, joined, places, words_of
+from .edits import fill_active, strips, write_cubes, write_leaves
+from .engine import Stored
 from .errors import RangeError
 from .formats.volume import package
 from .forms import COORDINATE_SPAN, SIDES
 from .grid import Grid
-from .labels_items import Items, meeting, parts_of, slab, steps_of, towards
+from .labels_items import Items, steps_of
 from .mask import Mask
 from .reading import Walkable
 
@@ -93,59 +94,22 @@ class Measures(NamedTuple):
             yield MeasureRow(value, name, voxels, volume, tuple(centroid), tuple(low), tuple(high), tuple(extent), area, near[value])
 
 
-def spacing_of(grid: Walkable, spacing: "Sequence[float] | None") -> "list[float]":
-    """Returns three sizes of a voxel: those given, else those of the affine of the grid. Raises RangeError if they aren't three positive
-    numbers."""
-    sizes = np.linalg.norm(images.affine_of(grid.metadata)[:, :3], axis=0) if spacing is None else np.asarray(spacing, np.float64)
+def spacing_of(metadata: "Mapping[str, str]", spacing: "Sequence[float] | None") -> "list[float]":
+    """Returns three sizes of a voxel: those given, else those of the affine. Raises RangeError if they aren't three positive numbers."""
+    sizes = np.linalg.norm(images.affine_of(metadata)[:, :3], axis=0) if spacing is None else np.asarray(spacing, np.float64)
     if sizes.shape != (3,) or not (np.isfinite(sizes) & (sizes > 0)).all():
         raise RangeError(f"the spacing is three positive numbers, not {spacing!r}")
     return sizes.tolist()
 
 
-class Faces:
-    """Counts of the faces between voxels of two cells along each axis. Cells are below `span`."""
+class Tally(NamedTuple):
+    """What is added up of labels, all of it exact: what `Grid.labels` returns, twice the sums of coordinates (n x 3, Python's integers), and of
+    pairs of values that touch (m x 2, the lesser one first, or the same one twice) how many faces along each axis lie between them (m x 3)."""
 
-    def __init__(self, span: int) -> None:
-        self.span = span
-        none = np.zeros(0, np.int64)
-        self.found = [[(none, none)] for _ in range(3)]
-        #: Of each cell the sides of tiles, in faces, without those that touch an item.
-        self.bare = np.zeros((3, span), np.int64)
-
-    def add(self, axis: int, one: np.ndarray, other: np.ndarray, each: int = 1) -> None:
-        """Adds contacts of `each` faces between cells of two arrays of the same shape. Contacts of a cell with itself aren't counted."""
-        differ = one != other
-        one, other = one[differ].astype(np.int64), other[differ].astype(np.int64)
-        self.found[axis].append(tallied(np.minimum(one, other) * self.span + np.maximum(one, other), self.span**2, each))
-
-    def areas(self, spacing: Sequence[float]) -> "tuple[np.ndarray, np.ndarray, np.ndarray]":
-        """Returns the areas of all cells but 0, the pairs of these that touch (m x 2), and their areas of contact."""
-        total, areas = prod(spacing), np.zeros(self.span)
-        codes, sizes = [], []
-        for axis in range(3):
-            face, counts = total / spacing[axis], self.bare[axis].astype(np.float64)
-            code, count = (np.concatenate(column) for column in zip(*self.found[axis]))
-            code, which = np.unique(code, return_inverse=True)
-            sums = np.bincount(which, count, len(code)).astype(np.float64)
-            for cell in divmod(code, self.span):
-                counts += np.bincount(cell, sums, self.span)
-            areas += counts * face
-            codes.append(code)
-            sizes.append(sums * face)
-        code, which = np.unique(np.concatenate(codes), return_inverse=True)
-        area = np.bincount(which, np.concatenate(sizes), len(code)).astype(np.float64)
-        touch = code >= self.span
-        return areas[1:], np.stack(divmod(code[touch], self.span), axis=1), area[touch]
-
-
-def tallied(codes: np.ndarray, span: int, each: int) -> "tuple[np.ndarray, np.ndarray]":
-    """Returns the codes below a span that occur, each once and rising, and `each` times how often."""
-    if span <= 4 * len(codes) + 4096:
-        counts = np.bincount(codes, minlength=1)
-        found = np.flatnonzero(counts)
-        return found, counts[found] * each
-    found, counts = np.unique(codes, return_counts=True)
-    return found, counts * each
+    labels: Labels
+    sums: np.ndarray
+    pairs: np.ndarray
+    faces: np.ndarray
 
 
 def measure(grid: Walkable, spacing: "Sequence[float] | None" = None) -> Measures:
@@ -158,69 +122,100 @@ def measure(grid: Walkable, spacing: "Sequence[float] | None" = None) -> Measure
     >>> [(row.value, row.volume, row.centroid) for row in vdb.labels.measure(organ, spacing=(1, 1, 2)).rows()]
     [(7, 48.0, (0.5, 1.0, 1.5))]
     """
-    sizes = spacing_of(grid, spacing)
-    values, voxels, low, high = grid.labels()
-    sides = (high.astype(np.int64) - low + 1) * sizes
-    items = Items(grid, values)
-    faces = Faces(len(values) + 1)
-    inside_faces(items, faces)
-    outside_faces(items, faces)
-    area, pairs, contacts = faces.areas(sizes)
-    return Measures(values, voxels, voxels * prod(sizes), centroids(items, voxels, low), low, high, sides, area, values[pairs - 1], contacts)
+    sizes = spacing_of(grid.metadata, spacing)
+    return measures(tally(grid), sizes)
 
 
-def centroids(items: Items, voxels: np.ndarray, low: np.ndarray) -> np.ndarray:
-    """Returns the mean coordinates (n x 3) of labels, of which these many voxels and least corners are known."""
-    if not len(voxels):
-        return np.zeros((0, 3))
-    origin = low.min(axis=0).astype(np.int64)
-    widest = max(int((at.max(axis=0) - origin).max()) for at in items.lows if len(at)) + SIDES[-1]
-    # twice the sum of coordinates past the origin, since the middle of a tile lies between voxels; Python's integers if 64 bits are too few
-    sums = np.zeros((3, len(voxels) + 1), np.int64 if 2 * widest * int(voxels.sum()) < 2**63 else object)
+def measures(total: Tally, sizes: "Sequence[float]") -> Measures:
+    """Returns the measures of what was added up, with three sizes of a voxel."""
+    (values, voxels, low, high), sums, pairs, faces = total
+    volume, twice = prod(sizes), 2 * voxels.astype(object)  # the quotient of Python's integers is the nearest float
+    areas, inner = volume / np.array(sizes), pairs[:, 0] == pairs[:, 1]
+    bare = np.repeat(2 * voxels[:, None], 3, axis=1)
+    bare[np.searchsorted(values, pairs[inner, 0])] -= 2 * faces[inner]
+    middles = (sums / twice[:, None]).astype(np.float64).reshape(-1, 3)
+    extent = (high.astype(np.int64) - low + 1) * sizes
+    contacts = (faces[~inner] * areas).sum(axis=1)
+    return Measures(values, voxels, voxels * volume, middles, low, high, extent, (bare * areas).sum(axis=1), pairs[~inner], contacts)
+
+
+def merged(parts: "Sequence[Tally]") -> Tally:
+    """Returns the sum of what was added up in parts."""
+    labels, sums, pairs, faces = zip(*parts)
+    every, (pair, which) = joined(labels), np.unique(np.concatenate(pairs), axis=0, return_inverse=True)
+    total = grouped(every)
+    sum_of, face = np.zeros((len(total.values), 3), object), np.zeros((len(pair), 3), np.int64)
+    np.add.at(sum_of, np.searchsorted(total.values, every.values), np.concatenate(sums))
+    np.add.at(face, which, np.concatenate(faces))
+    return Tally(total, sum_of, pair, face)
+
+
+def tally(grid: Walkable) -> Tally:
+    """Returns what `measure` adds up of a grid."""
+    labels = grid.labels()
+    items, count = Items(grid, labels.values), len(labels.values) + 1
+    codes, faces = touching(items, count)
+    pairs = labels.values[np.stack(divmod(codes, count), axis=1) - 1]
+    return Tally(labels, sums_of(items, labels), pairs, faces)
+
+
+def sums_of(items: Items, labels: Labels) -> np.ndarray:
+    """Returns twice the sums of the coordinates (n x 3, Python's integers) of labels: the middle of a tile may lie between voxels."""
+    count = len(labels.values) + 1
+    origin = labels.low.min(axis=0, initial=2**31 - 1).astype(np.int64)
+    widest = int((labels.high.max(axis=0, initial=-(2**31)) - origin).max())
+    # past the origin, by Python's integers only if 64 bits are too few
+    sums = np.zeros((3, count), np.int64 if 2 * widest * int(labels.counts.sum()) < 2**63 else object)
     for part in items.chunks():
         cells, offsets = items.cells[part].ravel(), items.lows[0][part].astype(np.int64) - origin
         for axis in range(3):
             at = offsets[:, axis, None] + OFFSETS[:, axis]
-            sums[axis] += 2 * np.bincount(cells, at.ravel(), len(voxels) + 1).astype(np.int64)
+            sums[axis] += 2 * np.bincount(cells, at.ravel(), count).astype(np.int64)
     for side, corners, cells in zip(SIDES, items.lows[1:], items.tiles):
         for axis in range(3):
             at = 2 * (corners[:, axis].astype(np.int64) - origin[axis]) + side - 1
             np.add.at(sums[axis], cells, at.astype(sums.dtype) * side**3)
-    twice = 2 * voxels.astype(object)  # the quotient of Python's integers is the nearest float
-    return ((sums[:, 1:] + origin[:, None].astype(object) * twice) / twice).astype(np.float64).T
+    return sums.T[1:].astype(object) + 2 * labels.counts.astype(object)[:, None] * origin.astype(object)
 
 
-def inside_faces(items: Items, faces: Faces) -> None:
-    """Counts the faces between two voxels of a leaf."""
+def touching(items: Items, span: int) -> "tuple[np.ndarray, np.ndarray]":
+    """Returns the pairs of cells that touch as numbers, the lesser cell times the span and the other one, and how many faces along each axis
+    (n x 3) lie between them."""
+    same, found = np.zeros((3, span), np.int64), [(np.zeros(0, np.int64),) * 2]
+
+    def add(axis: int, one: np.ndarray, other: np.ndarray, each: int = 1) -> None:
+        alike = one == other
+        same[axis] += each * np.bincount(one[alike], minlength=span)
+        differ = ~alike & (one != 0) & (other != 0)
+        one, other = one[differ].astype(np.int64), other[differ].astype(np.int64)
+        codes, counts = tallied(np.minimum(one, other) * span + np.maximum(one, other), span**2)
+        found.append((3 * codes + axis, counts * each))
+
     for part in items.chunks():
         cells = items.cells[part].reshape(-1, 8, 8, 8)
         for axis in range(3):
-            first, past = ([slice(None)] * (axis + 1) + [ends] for ends in (slice(None, -1), slice(1, None)))
-            faces.add(axis, cells[tuple(first)], cells[tuple(past)])
-
-
-def outside_faces(items: Items, faces: Faces) -> None:
-    """Counts the faces of leaves and tiles with what is next to them."""
-    for side, cells in zip(SIDES, items.tiles):
-        faces.bare += 2 * side**2 * np.bincount(cells, minlength=faces.span)
+            turned = np.moveaxis(cells, axis + 1, 0)
+            add(axis, turned[:-1], turned[1:])
+    for side, tiles in zip(SIDES, items.tiles):
+        same += (side - 1) * side**2 * np.bincount(tiles, minlength=span)
     for contact in items.contacts(1):
-        step, one, first, other, second = contact
-        axis = [abs(it) for it in step].index(1)
-        if one:  # two tiles
-            assert other is not None
-            pair, each = (items.tiles[one - 1][first], items.tiles[other - 1][second]), SIDES[one - 1] ** 2
-            faces.add(axis, *pair, each)
-            for cells in pair:
-                faces.bare[axis] -= each * np.bincount(cells, minlength=faces.span)
-        elif other == 0:
-            for pair in meeting(items.cells, contact, 1):
-                faces.add(axis, *pair)
-        else:
-            near = slab(items.cells, first, towards(step))
-            cells = np.zeros(len(first), items.cells.dtype) if other is None else items.tiles[other - 1][second]
-            faces.add(axis, near, np.repeat(cells, 64).reshape(near.shape))
-            if other is not None:
-                faces.bare[axis] -= 64 * np.bincount(cells, minlength=faces.span)
+        for one, other in items.meeting(contact, 1, items.cells, items.tiles):
+            add([abs(it) for it in contact.step].index(1), one, other, SIDES[contact.one - 1] ** 2 if contact.one else 1)
+    found += [(3 * (span + 1) * np.arange(1, span) + axis, same[axis, 1:]) for axis in range(3)]
+    codes, counts = (np.concatenate(column) for column in zip(*found))
+    code, which = np.unique(codes[counts > 0] // 3, return_inverse=True)
+    faces = np.bincount(3 * which + codes[counts > 0] % 3, counts[counts > 0], 3 * len(code))
+    return code, faces.reshape(-1, 3).astype(np.int64)
+
+
+def tallied(codes: np.ndarray, span: int) -> "tuple[np.ndarray, np.ndarray]":
+    """Returns the codes below a span that occur, each once and rising, and how often."""
+    if span > 4 * len(codes) + 4096:
+        found, counts = np.unique(codes, return_counts=True)
+        return found, counts
+    counts = np.bincount(codes, minlength=1)
+    found = np.flatnonzero(counts)
+    return found, counts[found]
 
 
 def components(grid: Walkable, connectivity: int = 6) -> Grid:
@@ -236,80 +231,101 @@ def components(grid: Walkable, connectivity: int = 6) -> Grid:
     >>> vdb.labels.components(grid)[...].tolist(), vdb.labels.components(grid, 18)[...].tolist()
     ([[[1, 1, 0, 2], [0, 0, 3, 4]]], [[[1, 1, 0, 1], [0, 0, 1, 2]]])
     """
+    return numbered(grid, connectivity)[0]
+
+
+def numbered(grid: Walkable, connectivity: int) -> "tuple[Grid, np.ndarray]":
+    """Returns the components of a grid, and the first voxel of each (n x 3)."""
     if connectivity not in ORDERS:
         raise RangeError(f"the connectivity is 6, 18 or 26, not {connectivity!r}")
     values = np.array([False, True]) if grid.kind == "bool" else grid.labels().values
-    items, nodes = Items(grid, values), Nodes(ORDERS[connectivity])
-    nodes.find(items)
-    numbers = nodes.numbers()
+    items = Items(grid, values)
+    nodes = Nodes(items, ORDERS[connectivity])
+    numbers, firsts = ranked([np.concatenate(ends) for ends in zip(*nodes.edges)], nodes.corners)
+    numbers = np.concatenate([[0], numbers])  # those of inactive voxels, and of nodes from 1 on
     made = Grid("i32", limit=grid.limit, metadata=images.kept(grid.metadata, np.dtype(np.int32)))  # type: ignore[attr-defined]
+    whole = nodes.whole if isinstance(grid, Stored) else np.zeros(len(items.cells), np.bool_)
+    if whole.any():
+        low, node = np.concatenate([items.lows[0][whole], items.lows[1]]), np.concatenate([nodes.leaves[whole].max(axis=1), nodes.tiles[0]])
+        fill_active(made._held, new_grid(made._kind, 0, made.limit), grid._handle(), Cubes(low, 8, numbers[node]))  # type: ignore[attr-defined]
     for part in items.chunks():
-        found = numbers[nodes.leaves[part]]
-        write_leaves(made._held, items.lows[0][part], found, found != 0)
-    for side, low, tiles in zip(SIDES, items.lows[1:], nodes.tiles):
+        found = numbers[nodes.leaves[part][~whole[part]]]
+        write_leaves(made._held, items.lows[0][part][~whole[part]], found, found != 0)
+    for side, low, tiles in [*zip(SIDES, items.lows[1:], nodes.tiles)][int(whole.any()) :]:
         write_cubes(made._held, Cubes(low, side, numbers[tiles]))
     made.prune()
-    return made
+    return made, firsts
 
 
 class Nodes:
-    """The nodes of a graph of components: connected voxels of one cell of a leaf, and tiles. Node 0 is that of inactive voxels."""
+    """The nodes of a graph of components, and its edges: connected voxels of one cell of a leaf, and tiles. `leaves` (n x 512) and `tiles` have
+    the nodes of items from 1 on, 0 for inactive voxels, and `whole` says which leaves have only one."""
 
-    def __init__(self, order: int) -> None:
-        self.order = order
-        self.sparse, self.csgraph = (package(name, "python3-scipy") for name in ("scipy.sparse", "scipy.sparse.csgraph"))
-        none = np.zeros(0, np.int32)
-        self.edges = [(none, none)]
-
-    def find(self, items: Items) -> None:
-        """Finds the nodes and the edges between them."""
-        self.leaves = np.empty(items.cells.shape, np.int32)
-        count, cells, corners = 1, [np.zeros(1, items.cells.dtype)], [np.zeros((1, 3), np.int32)]
+    def __init__(self, items: Items, order: int) -> None:
+        self.leaves, self.whole, none = np.empty(items.cells.shape, np.int32), np.zeros(len(items.cells), np.bool_), np.zeros(0, np.int32)
+        self.edges, self.count = [(none, none)], 1
+        cells, corners = [np.zeros(1, items.cells.dtype)], [np.zeros((0, 3), np.int32)]
         for part in items.chunks():
-            some = items.cells[part]
-            number = first_voxels(some, self.order)
-            root = (number == np.arange(512)) & (some != 0)
-            rank = np.cumsum(root, dtype=np.int32).reshape(root.shape) + np.int32(count - 1)
-            self.leaves[part] = np.take_along_axis(rank, number, axis=1) * (some != 0)
-            count += np.count_nonzero(root)
-            cells.append(some[root])
-            corners.append(places(items.lows[0][part], root))
-        self.tiles = []
-        for tiles in items.tiles:
-            self.tiles.append(np.arange(count, count + len(tiles), dtype=np.int32))
-            count += len(tiles)
+            some, low = items.cells[part], items.lows[0][part]
+            cell, words = some.max(axis=1), words_of(some != 0)
+            whole = self.whole[part] = ((some == cell[:, None]) | (some == 0)).all(axis=1) & is_joined(words)
+            self.leaves[part][whole] = (some[whole] != 0) * self.more(np.count_nonzero(whole))[:, None]
+            number = first_voxels(some[~whole], order)
+            root = (number == np.arange(512)) & (some[~whole] != 0)
+            rank = np.cumsum(root, dtype=np.int32).reshape(root.shape) + np.int32(self.count - 1)
+            self.leaves[part][~whole] = np.take_along_axis(rank, number, axis=1) * (some[~whole] != 0)
+            self.more(np.count_nonzero(root))
+            cells += [cell[whole], some[~whole][root]]
+            corners += [low[whole] + OFFSETS[first_of(words[whole])], places(low[~whole], root)]
+        self.tiles = [self.more(len(tiles)) for tiles in items.tiles]
         self.cells, self.corners = np.concatenate([*cells, *items.tiles]), np.concatenate([*corners, *items.lows[1:]])
-        for contact in items.contacts(self.order):
-            if contact.other == 0:
-                for pair in meeting(self.leaves, contact, self.order):
-                    self.join(*pair)
-            elif contact.other is not None:
-                second = self.tiles[contact.other - 1][contact.second]
-                if contact.one:
-                    self.join(self.tiles[contact.one - 1][contact.first], second)
-                else:
-                    near = slab(self.leaves, contact.first, towards(contact.step))
-                    self.join(near, np.broadcast_to(second[:, None], near.shape))
+        for contact in items.contacts(order):
+            for pair in items.meeting(contact, order, self.leaves, self.tiles):
+                self.join(*pair)
+
+    def more(self, count: int) -> np.ndarray:
+        """Returns the numbers of this many new nodes."""
+        self.count += count
+        return np.arange(self.count - count, self.count, dtype=np.int32)
 
     def join(self, one: np.ndarray, other: np.ndarray) -> None:
         """Adds edges between nodes of one cell."""
-        same = (one > 0) & (self.cells[one] == self.cells[other])
-        one, other = one[same], other[same]
-        new = np.ones(len(one), np.bool_)
-        new[1:] = (one[1:] != one[:-1]) | (other[1:] != other[:-1])
-        self.edges.append((one[new], other[new]))
+        one, other = one.ravel(), other.ravel()
+        new = (one > 0) & (other > 0)
+        new[1:] &= (one[1:] != one[:-1]) | (other[1:] != other[:-1])
+        one, other = one[new], other[new]
+        same = self.cells[one] == self.cells[other]
+        self.edges.append((one[same] - 1, other[same] - 1))
 
-    def numbers(self) -> np.ndarray:
-        """Returns the number of the component of each node, 0 for node 0."""
-        one, other = (np.concatenate(ends) for ends in zip(*self.edges))
-        graph = self.sparse.coo_matrix((np.ones(len(one), np.int8), (one, other)), shape=(len(self.cells),) * 2)
-        component = self.csgraph.connected_components(graph, directed=False)[1]
-        order = 1 + np.lexsort(self.corners[1:].T[::-1])
-        _, index = np.unique(component[order], return_index=True)
-        ranks = np.zeros(len(index) + 1, np.int64)
-        ranks[component[order][np.sort(index)]] = np.arange(1, len(index) + 1)
-        ranks[component[0]] = 0
-        return ranks[component]
+def ranked(edges: "Sequence[np.ndarray]", corners: np.ndarray) -> "tuple[np.ndarray, np.ndarray]":
+    """Returns the number of the component of each node of a graph, and the first voxel of each component (n x 3), by the first voxels of
+    nodes (m x 3), in whose order components are numbered from 1 on, and the two ends of edges."""
+    graph = package("scipy.sparse", "python3-scipy").coo_matrix((np.ones(len(edges[0]), np.int8), tuple(edges)), shape=(len(corners),) * 2)
+    component = package("scipy.sparse.csgraph", "python3-scipy").connected_components(graph, directed=False)[1]
+    order = np.lexsort(corners.T[::-1])
+    _, index = np.unique(component[order], return_index=True)
+    firsts = order[np.sort(index)]
+    ranks = np.zeros(len(index), np.int64)
+    ranks[component[firsts]] = np.arange(1, len(index) + 1)
+    return ranks[component], corners[firsts]
+
+
+def is_joined(words: np.ndarray) -> np.ndarray:
+    """Returns of which leaves (n x 8, words as `words_of` has them) the marked voxels are one component by faces, or False if that takes long
+    to find. Each has one."""
+    every, found = np.ascontiguousarray(words.T), np.zeros(words.shape[::-1], np.uint64)
+    at = (every != 0).argmax(axis=0), np.arange(len(words))
+    found[at] = every[at] & (~every[at] + np.uint64(1))
+    ways = [(np.uint64(by), np.uint64(mask)) for by, mask in ((8, 2**64 - 1), (1, 2**64 // 255 * 254))]
+    for _ in range(24):
+        before = found.copy()
+        for by, mask in ways:
+            found |= ((found << by & mask) | ((found & mask) >> by)) & every
+        for x, near in (*zip(range(1, 8), range(7)), *zip(range(6, -1, -1), range(7, 0, -1))):
+            found[x] |= found[near] & every[x]
+        if np.array_equal(before, found):
+            break
+    return (found == every).all(axis=0)
 
 
 def first_voxels(cells: np.ndarray, order: int) -> np.ndarray:
@@ -408,7 +424,7 @@ def margin(mask: Grid, distance: float, spacing: "Sequence[float] | None" = None
     [[1, 1, 1], [1, 1, 1], [1, 1, 0]]
     """
     made = Mask(mask)
-    reach = reaches(distance, spacing_of(mask, spacing))
+    reach = reaches(distance, spacing_of(mask.metadata, spacing))
     wide = np.array([*reach.shape, reach.max() + 1]) - 1
     bounds = made.bounds
     if bounds is None or not wide.any():
@@ -416,7 +432,7 @@ def margin(mask: Grid, distance: float, spacing: "Sequence[float] | None" = None
     if (np.array(bounds[0]) - wide < -COORDINATE_SPAN).any() or (np.array(bounds[1]) + wide >= COORDINATE_SPAN).any():
         raise RangeError(f"the margin of {bounds[0]} to {bounds[1]} goes past 32 bits")
     source, bricks = made.copy(), [np.zeros((0, 3), np.int64)]
-    for part in parts_of(source):
+    for part in source._parts():
         if isinstance(part, Rows):
             bricks.append(np.unique(part.origins[part.active.any(axis=1)].astype(np.int64) // BRICK, axis=0))
         elif part.side == SIDES[0]:

@@ -3,11 +3,11 @@
 from __future__ import annotations
 
 from itertools import product
-from typing import Iterator, NamedTuple, Optional, Sequence, Tuple, Union
+from typing import Iterator, NamedTuple, Sequence, Tuple, Union
 
 import numpy as np
 
-from .blocks import Part, Rows, ranks
+from .blocks import Rows, ranks
 from .forms import SIDES
 from .reading import Walkable
 
@@ -16,24 +16,18 @@ CHUNK = 1024
 Step = Tuple[int, int, int]
 
 
-def parts_of(grid: Walkable) -> Iterator[Part]:
-    """Yields the leaves of a grid in block order, then its active tiles. All that this module knows of a grid's tree comes from here."""
-    return grid._parts()
-
-
 def steps_of(order: int) -> "list[Step]":
     """Returns the steps to the blocks around one that change at most `order` of the coordinates, in rising order."""
     return [(x, y, z) for x, y, z in product((-1, 0, 1), repeat=3) if 0 < abs(x) + abs(y) + abs(z) <= order]
 
 
 class Contact(NamedTuple):
-    """Items that touch: the step from the first ones to the second ones, the sets in which they are, and their indices there. The second
-    set is None for leaves that have no item at the end of the step."""
+    """Items that touch: the step from the first ones to the second ones, the sets in which they are, and their indices there."""
 
     step: Step
     one: int
     first: np.ndarray
-    other: Optional[int]
+    other: int
     second: np.ndarray
 
 
@@ -48,7 +42,7 @@ class Items:
         among, dtype = values.astype(np.int64), np.min_scalar_type(len(values))
         lows = [[np.zeros((0, 3), np.int32)] for _ in self.sides]
         cells = [[np.zeros((0, 512) if side is None else 0, dtype)] for side in (None, *SIDES)]
-        for part in parts_of(grid) if len(values) else ():
+        for part in grid._parts() if len(values) else ():
             number = (ranks(part.values.astype(np.int64, copy=False), among) + 1).astype(dtype)
             if isinstance(part, Rows):
                 some = part.active.any(axis=1)
@@ -73,17 +67,34 @@ class Items:
             for begin, step in product(range(0, len(low), CHUNK), steps_of(order)):
                 corners = low[begin : begin + CHUNK] + np.array(step, np.int64) * side
                 left = np.arange(len(corners))
-                for other in range(one, len(self.sides)):
+                for other in range(one + (step < (0, 0, 0)), len(self.sides)):  # each two of a set once
                     place = self.places[other]
                     if place is None or not len(left):
                         continue
                     at = place.find(corners[left])
                     found = at >= 0
-                    if found.any() and (other > one or step > (0, 0, 0)):
+                    if found.any():
                         yield Contact(step, one, left[found] + begin, other, at[found])
                     left = left[~found]
-                if one == 0 and len(left):
-                    yield Contact(step, one, left + begin, None, left)
+
+    def meeting(
+        self, contact: Contact, order: int, leaves: np.ndarray, tiles: "Sequence[np.ndarray]"
+    ) -> "Iterator[tuple[np.ndarray, np.ndarray]]":
+        """Yields what items that touch have (two arrays of one shape) where they do, by steps that change at most `order` coordinates, of what
+        voxels of leaves have (n x 512), and tiles."""
+        step, one, first, other, second = contact
+        if other == 0:
+            for shift in product(*((0,) if it else (-1, 0, 1) for it in step)):
+                if 6 - step.count(0) - shift.count(0) <= order:
+                    ends = zip(shift, towards(step), towards((-step[0], -step[1], -step[2])))
+                    sides = ((slice(max(0, -by), 8 - max(0, by)), slice(max(0, by), 8 + min(0, by))) if by else (a, b) for by, a, b in ends)
+                    here, there = zip(*sides)
+                    yield slab(leaves, first, here), slab(leaves, second, there)
+        elif one == 0:
+            near = slab(leaves, first, towards(step))
+            yield near, np.broadcast_to(tiles[other - 1][second][:, None], near.shape)
+        else:
+            yield tiles[one - 1][first], tiles[other - 1][second]
 
 
 def rooted(corners: np.ndarray) -> np.ndarray:
@@ -128,13 +139,3 @@ def slab(cells: np.ndarray, leaves: np.ndarray, index: "Sequence[Index]") -> np.
 def towards(step: Step) -> "list[Index]":
     """Returns the index of the voxels of a leaf at the end of a step: a side, an edge or a corner."""
     return [slice(None) if it == 0 else 7 if it > 0 else 0 for it in step]
-
-
-def meeting(cells: np.ndarray, contact: Contact, order: int) -> "Iterator[tuple[np.ndarray, np.ndarray]]":
-    """Yields the cells (n x m) of voxels of two leaves that touch, by steps that change at most `order` coordinates."""
-    back = [-it for it in contact.step]
-    for shift in product(*((0,) if it else (-1, 0, 1) for it in contact.step)):
-        if 6 - contact.step.count(0) - shift.count(0) <= order:
-            ends = zip(shift, towards(contact.step), towards((back[0], back[1], back[2])))
-            one, other = zip(*((slice(max(0, -by), 8 - max(0, by)), slice(max(0, by), 8 + min(0, by))) if by else (a, b) for by, a, b in ends))
-            yield slab(cells, contact.first, one), slab(cells, contact.second, other)

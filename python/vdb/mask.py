@@ -27,8 +27,8 @@ OF_SETS = {"maximum": "unite", "replace": "unite", "minimum": "intersect"}
 class Mask(Grid):
     """A set of voxels: a bool grid in which the active voxels, and no others, are True.
 
-    It is what a grid's `select` and its comparisons with a number make, and it has all calls of a grid. Its array and its files are its
-    states, whatever `dilate`, `erode`, `|`, `&`, `-` and `^` did to them. Assigning True puts voxels in, and False takes them out. Another
+    `select` and comparisons of a grid with a number return masks. A mask has all calls of a grid, and its values equal its states after each
+    of them, so its array and its files show the set. Assigning True puts voxels in, and False takes them out. In a call on two grids another
     grid stands for the set of its active voxels. A scene file keeps a mask as a bool grid, so read it by `Mask(grid)`.
 
     Examples
@@ -117,16 +117,13 @@ class Mask(Grid):
         return self.complement(image.bounds) if image.bounds else self.copy()
 
 
-def mask_of(held: Held, limit: "int | None" = None, without: "Held | None" = None) -> Held:
-    """Returns a bool grid that is True where a grid is active, and another one isn't, and False elsewhere. Its limit is that of the grid
-    unless given."""
+def mask_of(held: Held, limit: "int | None" = None) -> Held:
+    """Returns a bool grid that is True where a grid is active, and False elsewhere. Its limit is that of the grid unless given."""
     if limit is None:
         found = c_uint32()
         held.call("limit", byref(found))
         limit = found.value
     whole, made = new_grid(BOOL, True, limit), new_grid(BOOL, False, limit)
     whole.call_with("unite", held)
-    if without:
-        whole.call_with("subtract", without)
     made.call_with("replace", whole)
     return made

@@ -158,6 +158,13 @@ class Volume(NamedTuple):
         ends = [np.flatnonzero(states.any(axis=axes))[[0, -1]] for axes in ((1, 2), (0, 2), (0, 1))] if states.any() else []
         return Entry(box, int(np.count_nonzero(states)), np.transpose(ends) + box[0] if ends else None, self._sums(store, part))
 
+    def beside(self, kind: str) -> "Volume":
+        """Makes another volume of the same shape, of another type, in a group that is removed when this one is written."""
+        made = self._replace(written=secrets.token_hex(8), form=self.form._replace(kind=kind, dtype=KINDS[kind].dtype.name), sums=no_sums(self.form))
+        with naming(self.path):
+            create(store_of(self.path), made)
+        return made
+
     def _array(self, store: Any, which: int) -> Any:
         """Returns the array of values (0) or of toggled states (1). Raises ChunksFault if the store has none."""
         name = f"{self.written}/{ARRAYS[which]}"

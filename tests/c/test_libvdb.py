@@ -33,7 +33,7 @@ ALLOCATING = {
 }  # fmt: skip
 #: Those that allocate only if a box or another grid cuts a tile, which is seldom in random calls. The rows make each of these allocate.
 SELDOM = {"grid_clip", "grid_intersect", "grid_subtract", "grid_voxelise"}
-FUZZ_SECONDS = 120  # of the processor: some 30 at full speed, which the host of a machine may halve
+FUZZ_SECONDS = 180  # of the processor: some 50 at full speed, which the host of a machine may halve
 INTERPRETERS = [sys.executable, "/usr/bin/python3"]
 STRICT = ["-O1", "-g", "-Wall", "-Wextra", "-pedantic", "-Werror"]
 LANGUAGES = [("gcc", "c99"), ("clang", "c99"), ("g++", "c++17"), ("g++", "c++20"), ("clang++", "c++17"), ("clang++", "c++20")]
@@ -430,7 +430,7 @@ class RandomCalls(unittest.TestCase):
         wrapped = [f"-Wl,--wrap={name}" for name in ("malloc", "realloc", "free")]
         whole = ["-Wl,--whole-archive", ARCHIVE, "-Wl,--no-whole-archive", kit]
         done(["gcc", "-O2", "-shared", "-fPIC", "-o", library, CHECKS / "failing.c", *whole, "-Wl,-z,defs", *wrapped])
-        ran = run([sys.executable, CHECKS / "fuzz.py", library, FUZZ_CALLS])
+        ran = run([with_numpy() or sys.executable, CHECKS / "fuzz.py", library, FUZZ_CALLS])
         print(ran.stdout, end="", flush=True)
         self.assertEqual((ran.returncode, ran.stderr), (0, ""))
         found = re.match(r"(\d+) seconds\nallocating: (.*)\n(\d+) calls, (\d+) failed allocations\n\Z", ran.stdout)

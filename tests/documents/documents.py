@@ -10,9 +10,10 @@ reports and exits with status 1 if
 - two documents share ten words in a row, or three lines of code,
 - the example in docs/LIBRARY.md differs from `fill_and_count` of library_examples, which CI proves,
 - a file has another version than VERSION (tools/set-version),
-- the tables of docs/PROOFS.md differ from those of definitions.py; --write renews them,
+- the tables of docs/PROOFS.md differ from those of definitions.py, or those of speed in README and docs/BENCHMARKS.md from those of
+  bench/measure/readers.py; --write renews them,
 - README has no link to a page for users, or a code block of one isn't of the form that --run needs,
-- a number in a document differs from its source: of commands, crates, edits, checks, definitions, limits, speeds, minutes of CI,
+- a number in a document differs from its source: of commands, crates, edits, checks, definitions, limits, minutes of CI,
 - docs/TESTING.md tells another least number of results of a suite than CI asks for.
 """
 import os
@@ -23,6 +24,9 @@ import sys
 import pages
 from definitions import TOP, edits_of, tables, text
 from crates import lowest_first
+
+sys.path.append(f"{TOP}/bench")
+from measure import readers  # noqa: E402
 
 WORDS = 30
 SHARED_WORDS, SHARED_LINES = 10, 3
@@ -84,7 +88,7 @@ def long_sentences(name):
 
 def parts(name):
     """Yields the paragraphs, items and rows of a document as their words, and its blocks of code as their lines, each with the shared number."""
-    document = text(name)
+    document = re.sub(rf"(?m)^\| (?:{'|'.join(readers.GROUPS.values())}) \|.*(?:\n\|.*)*", "", text(name))  # two documents have these tables
     for part in re.split(r"\n\s*\n|\n(?=\s*(?:[-*|#]|\d+\.)\s?)", prose(document)):
         yield SHARED_WORDS, re.findall(r"[\w'./-]+", re.sub(r"\]\([^)]*\)", "]", part).lower())
     fenced = [it[1] for it in re.finditer(r"(?ms)^```.*?\n(.*?)^```$", document)]
@@ -132,29 +136,6 @@ def wrong_limits():
             yield f"README.md: no limit {digits} in a row of {row}"
 
 
-# for each row of README's tables of speed a word, and the rows of bench/results that have its figures
-SPEEDS = [
-    ("set a voxel", "C, sets by an accessor in order, new leaves"), ("from the root", "C, gets from the root in order"),
-    ("over a box", "C, an array to a box"), ("fill a box", "fill, sides up to 64"), ("in order", "accessor, reads in order"),
-    ("load three", "three grids of 434,000 scattered voxels, i32: (?:load|size)"), ("load two", "two masks of 300 boxes, bool: (?:load|size)"),
-    ("array to a grid", "spheres: to a grid"), ("array to a file", "spheres: to a file"),
-]  # fmt: skip
-
-
-def wrong_speeds():
-    """Yields the figures of README's tables of speed that no median of the last run rounds to, and that BENCHMARKS doesn't have."""
-    (results,) = re.findall(r"\]\(\.\./(bench/results/[^)]*/results\.txt)\)", text("docs/BENCHMARKS.md"))
-    for word, name in SPEEDS:
-        rows = re.findall(rf"(?m)^\| {name} \|.*", text(results))
-        medians = [float(it.replace(",", "")) for row in rows for it in re.findall(r"\| ([\d,.]+)", row)]
-        (shown,) = re.findall(rf"(?m)^\| [^|]*{word}[^|]* \| .*", text("README.md"))
-        for figure, digits, unit in re.findall(r"(\d+(?:\.(\d+))?) (ns|us|s|MB)\b", shown):
-            scale, half = 1000 if unit == "us" else 1, 0.51 * 10 ** -len(digits)
-            is_measured = any(abs(it / scale - float(figure)) <= half for it in medians)
-            if not is_measured and f"{figure} {unit}" not in text("docs/BENCHMARKS.md"):
-                yield f"README.md: {figure} {unit} in '{word}', which isn't in {results}: {name}"
-
-
 def counts(sums):
     """What documents count: a pattern of each count, or of its least and its greatest number, and the number."""
     commands = re.search(r"pub enum Command \{(.*?)\n\}", text("crates/vdb_scene/src/command.rt"), re.S)[1]
@@ -196,24 +177,31 @@ def stale_numbers():
     yield from subprocess.run([f"{TOP}/tools/set-version", "--check"], stdout=subprocess.PIPE, text=True).stdout.splitlines()
 
 
-def renewed(document, made):
-    """The document with its tables as they are made."""
+def renewed(name, made):
+    """The document with its tables as they are made, each in place of the one with the same head."""
+    document = text(name)
     for table in made:
-        document = re.sub(rf"(?m)^{re.escape(table.split(chr(10))[0])}(?:\n\|.*)*", lambda _, it=table: it, document)
+        document, count = re.subn(rf"(?m)^{re.escape(table.split(chr(10))[0])}(?:\n\|.*)*", lambda _, it=table: it, document)
+        if count != 1:
+            sys.exit(f"{name}: {count} tables with the head {table.split(chr(10))[0]}")
     return document
 
 
 def main():
     if sys.argv[1:2] == ["--run"]:
         sys.exit(pages.run([os.path.relpath(os.path.abspath(it), TOP) for it in sys.argv[2:]]))
+    (results,) = re.findall(r"\]\(\.\./(bench/results/[^)]*/results\.txt)\)", text("docs/BENCHMARKS.md"))
     made, sums = tables()
-    proofs, names = renewed(text("docs/PROOFS.md"), made), documents()
-    if sys.argv[1:] == ["--write"]:
-        with open(f"{TOP}/docs/PROOFS.md", "w", encoding="utf-8") as file:
-            file.write(proofs)
-    found = [*stale_numbers(), *wrong_limits(), *wrong_speeds(), *untold_suites()]
-    if proofs != text("docs/PROOFS.md"):
-        found.append("docs/PROOFS.md: the tables are out of date; tests/documents/documents.py --write renews them")
+    of_speed = {"README.md": readers.calls(text(results), False), "docs/BENCHMARKS.md": readers.made(text(results))}
+    names, found = documents(), []
+    for name, its in {"docs/PROOFS.md": made, **of_speed}.items():
+        whole = renewed(name, its)
+        if sys.argv[1:] == ["--write"]:
+            with open(f"{TOP}/{name}", "w", encoding="utf-8") as file:
+                file.write(whole)
+        if whole != text(name):
+            found.append(f"{name}: the tables are out of date; tests/documents/documents.py --write renews them")
+    found += [*stale_numbers(), *wrong_limits(), *untold_suites()]
     expected = counts(sums)
     for name in names:
         found += [*broken_links(name), *long_sentences(name), *wrong_counts(name, expected)]

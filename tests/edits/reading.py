@@ -4,8 +4,8 @@ import dataclasses
 import os
 import re
 
-# the words before the colons of an edit's lines, without `and`
-FORM = re.compile(r"function clause (without )?(tried )?(file (old new )+)+")
+# the words before the colons of an edit's lines, without `and`, and the first line
+FORM, HEAD = re.compile(r"(without )?(tried )?((file )?(old new )+)+"), re.compile(r"(\S+): (\S+) (\S+)")
 
 FUNCTION = re.compile(r"( *)(?:pub(?:\([a-z]+\))? )?(?:const |unsafe |extern \"C\" )*fn (\w+)")
 
@@ -41,15 +41,15 @@ class Function:
     is_named: bool
 
 
-def read_edits(crate, file):
-    """Reads the edits of a crate; raises ValueError, with the name of the edit, if its lines are none of an edit's."""
-    edits = []
+def read_edits(crate, file, folder):
+    """Reads the edits of a crate in a folder; raises ValueError, with the first line of the edit, if its lines are none of an edit's."""
+    edits, places = [], {it.path: path for path, several in functions_of(folder).items() for it in several}
     for part in re.split(r"(?m)^== ", open(file, encoding="utf-8").read())[1:]:
-        name, _, lines = part.partition("\n")
-        pairs = re.findall(r"(?m)^([^:\n]+):? ?(.*)$", re.sub(r"\nand: ?", "\0", lines))
-        if not FORM.fullmatch("".join(f"{word} " for word, _ in pairs)):
-            raise ValueError(f"{name}: its lines are not those of an edit")
-        edit, path, texts = Edit(crate, name, {}, []), "", []
+        first, _, lines = part.partition("\n")
+        head, pairs = HEAD.fullmatch(first), re.findall(r"(?m)^([^:\n]+):? ?(.*)$", re.sub(r"\nand: ?", "\0", lines))
+        if not head or not FORM.fullmatch("".join(f"{word} " for word, _ in pairs)):
+            raise ValueError(f"{first}: its lines are not those of an edit")
+        edit, path, texts = Edit(crate, head[1], {"function": head[2], "clause": head[3]}, []), places.get(head[2], ""), []
         for word, text in pairs:
             if word == "file":
                 path = text

@@ -18,8 +18,7 @@ import tempfile
 from reading import Edit, function_at, functions_of, spans_of, spliced
 
 sys.path.insert(0, next(f"{it}/.ci" for it in pathlib.Path(__file__).resolve().parents if (it / "crates.txt").exists()))
-from checking import TOP, command_of, library_of  # noqa: E402
-from crates import crates_below, named_by  # noqa: E402
+from crates import TOP, command_of, crates_below, library_of, named_by  # noqa: E402
 
 # a refused answer of a goal, and a goal for which the search found no answer; the folder in proofs/ is the function's path
 REFUSED = re.compile(r"(?:\./)?proofs/(\S+)/(?:Answers|Proof)\.antt:\d+:\d+: error: `([^`]+)`: (.*)")
@@ -76,9 +75,7 @@ def changed_by(spans, functions):
 
 def fault_of(edit, functions):
     """What is wrong with the text of an edit, or an empty text; functions are those of its crate."""
-    name, clause = edit.heads.get("function"), edit.heads.get("clause")
-    if not name or not clause:
-        return "it names no function and clause"
+    name, clause = edit.heads["function"], edit.heads["clause"]
     try:
         spans = spans_of(edit, folder_of(edit.crate))
     except ValueError as error:

@@ -29,7 +29,7 @@ from vectors import rows_of
 ALL_AFTER_RUNS = 20
 REPLAYED = 450  # the least number of copies that play the rest of a row
 PATIENCE = 1_200  # seconds for a row and its copies
-SUBJECTS = ["accessors", "boxes", "dilate-and-erode", "layouts", "metadata", "pruned-leaf", "root-limit", "two-grids", "value-ranges", "voxels"]
+SUBJECTS = ["accessors", "boxes", "dilate-and-erode", "layouts", "metadata", "root-limit", "two-grids", "value-ranges", "voxels"]
 ALLOCATES_NOTHING = {"get", "drop", "prune", "count", "bounds", "list", "slice", "census", "unmeta", "metas"}
 BY_ACCESSOR = {"get", "set", "unset", "only", "state"}
 LONG = (b"list ", b"slice ", b"metas ")

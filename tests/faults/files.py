@@ -3,8 +3,7 @@
 """Scene files: truncated, extended, changed and endless ones, and reads and writes that fail. files.py [PART..]"""
 import sys
 from itertools import chain
-from feeding import feeding
-from program import LOAD_LIMIT, TIMEOUT, Tally, Workplace
+from program import LOAD_LIMIT, TIMEOUT, Tally, Workplace, feeding
 import encoding
 import vectors
 

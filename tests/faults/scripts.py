@@ -2,8 +2,7 @@
 # SPDX-License-Identifier: Apache-2.0
 """Scripts: short, endless and too long ones, reads and writes that fail, and wrong command lines. scripts.py [PART..]"""
 import sys
-from feeding import feeding
-from program import TIMEOUT, SCRIPT_LIMIT, Tally, Workplace
+from program import TIMEOUT, SCRIPT_LIMIT, Tally, Workplace, feeding
 from vectors import rows_of
 
 TALLY, PLACE = Tally("scripts"), Workplace()

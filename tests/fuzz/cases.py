@@ -1,17 +1,14 @@
 # SPDX-License-Identifier: Apache-2.0
 """The cases of the fuzzer. Each function plays one case by all drivers and returns the first difference as a text, or an empty one."""
 import operator
-import random
 import re
 import sys
 
 from mutating import encoding, lines_of  # before modules of tests and tests/faults, whose folders it adds
 import by_openvdb
 from allocations import answer_of_each, memory_may_replace
-from by_c import C
-from by_package import Package, loaded_by_package, vdb
 from cells import EXTENTS, TooLarge
-from drivers import same
+from drivers import C, Package, loaded_by_package, same, vdb
 from language import Scene, error_of
 from program import Workplace
 

@@ -91,6 +91,14 @@ class Cells:
         made.numbers[part] += count
         return Cells(made.cuts, made.numbers, [*made.palette, *map(change, made.palette)]).tidy()
 
+    def with_voxels(self, voxels):
+        """Returns the cells with those of some voxels, by their coordinates, replaced."""
+        made = self.cut([{cut for at in voxels for cut in (at[axis], at[axis] + 1) if cut <= HIGH} for axis in range(3)])
+        places = [np.searchsorted(cuts, ends) for cuts, ends in zip(made.cuts, zip(*voxels))]
+        if voxels:
+            made.numbers[tuple(places)] = np.arange(len(voxels)) + len(made.palette)
+        return Cells(made.cuts, made.numbers, [*made.palette, *voxels.values()]).tidy()
+
     def kept(self, box, outside):
         """Returns the cells with each one outside the box replaced."""
         made = self.cut_at(box)

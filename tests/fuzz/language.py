@@ -18,6 +18,7 @@ NAME, NUMBER, STATE = r"[a-z][a-z0-9_]{0,15}", r"0|-?[1-9][0-9]*", "on|off"
 ACCESSOR, VALUE, KIND, TEXT = f"-|{NUMBER}", f"{NUMBER}|true|false", "bool|i32|i64", "[!-~]{1,64}"
 PLACE, BOX = [ACCESSOR] + [NUMBER] * 3, [NUMBER] * 6
 TWO = ["union", "difference", "intersect", "max", "min", "sum", "replace"]
+CALLS = dict(zip(TWO, ["unite", "subtract", "intersect", "maximum", "minimum", "sum", "replace"]))  # of both libraries
 FORMS = {
     "grid": [[NAME, KIND, VALUE], [NAME, KIND, VALUE, NUMBER]], "drop": [[NAME]], "copy": [[NAME, NAME]], "get": [[NAME, *PLACE]],
     **{word: [[NAME, *PLACE, VALUE]] for word in ("set", "unset", "only")}, "state": [[NAME, *PLACE, STATE]],
@@ -94,6 +95,33 @@ class Grid:
         need(cells.roots((background, False)) <= self.limit, "root-limit")
         self.cells, self.background = cells, background
 
+    def change(self, box, change):
+        """Changes each cell of a box by a function."""
+        self.become(self.cells.changed(box, change))
+
+    def clip(self, box):
+        self.become(self.cells.kept(box, (self.background, False)))
+
+    def combine(self, word, other):
+        """Combines the grid with another one by the command of this name."""
+        need(word in TWO[:3] or self.kind == other.kind, "kind")
+        need(word != "sum" or self.kind != "bool", "no-sum")
+        cells = self.cells.combined(other.cells, CELL_PAIRS[word])
+        need(all(self.has(value) for value, _ in cells.palette), "sum-range")
+        self.become(cells, BACKGROUNDS[word](self.background, other.background) if word in BACKGROUNDS else None)
+
+    def iterate(self, grows, iterations):
+        """Dilates the active voxels, or erodes them."""
+        need(in_range(1, 16, iterations), "value-range")
+        cells = self.cells
+        for _ in range(iterations):
+            cells = cells.iterated(grows)
+        self.become(cells)
+
+    def census(self):
+        """Returns how many upper extents aren't the background, and how many extents of each level have cells that differ."""
+        return [self.cells.roots((self.background, False)), *(self.cells.uneven(side) for side in EXTENTS)]
+
 
 class Scene:
     """The grids by their names."""
@@ -128,6 +156,8 @@ class Scene:
             return self.two(word, *rest)
         if word in ("set", "unset", "only", "state"):
             return self.write(word, *rest)
+        if word in ("dilate", "erode"):
+            return self.iterate(word, *rest)
         return getattr(self, f"do_{word}")(*rest)
 
     def grid(self, name):
@@ -183,7 +213,7 @@ class Scene:
             "only": lambda cell: (value, cell[1]),
             "state": lambda cell: (cell[0], last == "on"),
         }[word]
-        grid.become(grid.cells.changed([*at, *at], change))
+        grid.change([*at, *at], change)
         return ["ok"]
 
     def box(self, numbers, *ranges):
@@ -197,12 +227,11 @@ class Scene:
         grid = self.grid(name)
         value = self.value(grid.kind, rest[6])
         box = self.box(rest[:6], grid.has(value))
-        grid.become(grid.cells.changed(box, lambda _: (value, rest[7] == "on")))
+        grid.change(box, lambda _: (value, rest[7] == "on"))
         return ["ok"]
 
     def do_clip(self, name, *box):
-        grid = self.grid(name)
-        grid.become(grid.cells.kept(self.box(box), (grid.background, False)))
+        self.grid(name).clip(self.box(box))
         return ["ok"]
 
     def do_prune(self, name):
@@ -242,35 +271,17 @@ class Scene:
         return [*rows, f"end {len(rows)}"]
 
     def do_census(self, name):
-        grid = self.grid(name)
-        counts = [grid.cells.roots((grid.background, False)), *(grid.cells.uneven(side) for side in (4096, 128, 8))]
-        return [" ".join(["census", *map(str, counts)])]
+        return [" ".join(["census", *map(str, self.grid(name).census())])]
 
     def two(self, word, name, other):
         grid, second = self.grid(name), self.grid(other)
         need(name != other, "same-grid")
-        need(word in TWO[:3] or grid.kind == second.kind, "kind")
-        need(word != "sum" or grid.kind != "bool", "no-sum")
-        cells = grid.cells.combined(second.cells, CELL_PAIRS[word])
-        need(all(grid.has(value) for value, _ in cells.palette), "sum-range")
-        background = BACKGROUNDS[word](grid.background, second.background) if word in BACKGROUNDS else None
-        grid.become(cells, background)
+        grid.combine(word, second)
         return ["ok"]
 
-    def iterate(self, grows, name, iterations):
-        grid = self.grid(name)
-        need(in_range(1, 16, int(iterations)), "value-range")
-        cells = grid.cells
-        for _ in range(int(iterations)):
-            cells = cells.iterated(grows)
-        grid.become(cells)
+    def iterate(self, word, name, iterations):
+        self.grid(name).iterate(word == "dilate", int(iterations))
         return ["ok"]
-
-    def do_dilate(self, name, iterations):
-        return self.iterate(True, name, iterations)
-
-    def do_erode(self, name, iterations):
-        return self.iterate(False, name, iterations)
 
     def do_meta(self, name, key, text):
         grid = self.grid(name)

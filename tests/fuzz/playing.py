@@ -51,7 +51,7 @@ def as_row(name, comment, text, kind):
         wanted = encoding.verdict(text)
         lines = [f"load: {digits[at : at + 120]}" for at in range(0, len(digits), 120)] or ["load: 00"]
         if isinstance(wanted, str):
-            lines += ["saved: none", "status: 3", f"stderr: vdb: load: {wanted}"]
+            lines.append(f"fault: {wanted}")
         else:
             saved = wanted.hex()
             lines += [f"saved: {saved[at : at + 120]}" for at in range(0, len(saved), 120)]
@@ -59,8 +59,9 @@ def as_row(name, comment, text, kind):
     made = []
     for line, answer in vetted(text)[0]:
         printable = all(0x20 <= byte <= 0x7E for byte in line)
-        made.append(f"> {line.decode()}".rstrip(" ") if printable else ">> " + repr(line)[2:-1].replace("\\'", "'") + "\\n")
-        made += answer
+        mark = "+" if printable and answer == ["ok"] else ">"
+        made.append(f"{mark} {line.decode()}".rstrip(" ") if printable else ">> " + repr(line)[2:-1].replace("\\'", "'") + "\\n")
+        made += answer if mark == ">" else []
     return head + "\n".join(made) + "\n"
 
 

@@ -17,7 +17,7 @@ from pathlib import Path
 
 import numpy as np
 
-from by_package import vdb
+from drivers import vdb
 from mutating import bytes_changed
 from vdb import formats
 

@@ -30,6 +30,7 @@ try:
     from dask.diagnostics import ProgressBar
     from hypothesis import given, settings
     from hypothesis import strategies as some
+    from scipy import ndimage
     from vdb import chunks
 except ImportError as error:
     raise unittest.SkipTest(f"{error}: Debian has dask, distributed, zarr and hypothesis as python3-dask and so on") from error
@@ -180,6 +181,43 @@ class Threads(Case):
         np.testing.assert_array_equal(found, np.where(values, values, -1))
         self.assertEqual((found.dtype, states.dtype), (np.int32, np.bool_))
         self.assertEqual([it.shape for it in self.written(empty).to_array()], [(0, 0, 0)] * 2)
+
+
+class Measured(Case):
+    """Measures and components of labels that the borders of blocks cut through, against one grid and scipy on the dense array."""
+
+    @quickly
+    @given(seed, cut, low, density, some.sampled_from([np.int32, np.int64, np.uint8, np.bool_]))
+    def test_against_one_grid(self, seed, cut, low, density, dtype):
+        (side, shape), spacing = cut, (0.5, 0.75, 3)
+        values = labels_of(seed, shape, density, dtype)
+        volume, grid = self.written(values, side=side, origin=low), vdb.Grid.from_array(values, origin=low)
+        for one, other in zip(volume.measure(spacing), vdb.labels.measure(grid, spacing)):
+            self.assertEqual(one.dtype, other.dtype)
+            np.testing.assert_array_equal(one, other)
+        for connectivity in (6, 18, 26):
+            self.same(volume.components(self.folder / "b", connectivity), vdb.labels.components(grid, connectivity))
+
+    def test_against_scipy(self):
+        values = labels_of(9, (45, 38, 51), 0.35)
+        volume = self.written(values, side=16, metadata={"affine_x": "2,0,0,0", "affine_y": "0,1,0,0", "affine_z": "0,0,1,0"})
+        found = volume.measure()
+        self.assertEqual(found.voxels.tolist(), [np.count_nonzero(values == it) for it in (1, 2, 3)])
+        faces = np.array([[np.count_nonzero(np.diff(np.pad(values == it, 1), axis=axis)) for axis in range(3)] for it in (1, 2, 3)])
+        self.assertEqual(found.area.tolist(), (faces @ [1, 2, 2]).tolist())
+        np.testing.assert_allclose(found.centroid, ndimage.center_of_mass(values > 0, values, [1, 2, 3]))
+        for connectivity, order in ((6, 1), (18, 2), (26, 3)):
+            made = np.asarray(volume.select([1, 2, 3], self.folder / "b").components(self.folder / "b", connectivity))
+            wanted, count = ndimage.label(values, ndimage.generate_binary_structure(3, order))
+            self.assertEqual((made.max(), len(np.unique(np.stack([made[values > 0], wanted[values > 0]]), axis=1).T)), (count, count))
+
+    def test_wrong_arguments_write_nothing(self):
+        volume = self.written(labels_of(1, (9, 9, 9), 0.5), side=8)
+        with self.assertRaisesRegex(vdb.RangeError, "6, 18 or 26"):
+            volume.components(self.folder / "b", 8)
+        with self.assertRaisesRegex(vdb.RangeError, "three positive numbers"):
+            volume.measure((1, 2))
+        self.assertFalse((self.folder / "b").exists())
 
 
 class Images(Case):

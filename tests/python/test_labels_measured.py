@@ -32,10 +32,10 @@ def blobs(seed, shape, count):
     return made
 
 
-def cells(seed, side, step):
-    """Touching cells of about `step` voxels along each axis, each with a label of its own."""
+def cells(seed, side, step, count=None):
+    """Touching cells of about `step` voxels along each axis, or so many along each axis, each with a label of its own."""
     dice = np.random.default_rng(seed)
-    count = side // step
+    count = count or side // step
     numbers = dice.permutation(count**3).reshape((count,) * 3) + 1
     x, y, z = (np.minimum(np.indices((side,) * 3)[axis] + dice.integers(0, 3, (side,) * 3), side - 1) * count // side for axis in range(3))
     return numbers[x, y, z].astype(np.int32)
@@ -183,7 +183,8 @@ class Components(unittest.TestCase):
     def test_memory(self):
         """No call takes more than three times the memory of the grid, whose leaves have 4 bytes a voxel, besides its result."""
         grid = vdb.Grid.from_array(cells(6, 128, 8))
-        for call in (labels.measure, labels.components):
+        wide = lambda grid: labels.margin(grid.select(range(1, 50)), 3)  # noqa: E731
+        for call in (labels.measure, labels.components, labels.open, labels.close, labels.fill_holes, wide):
             with mock.patch("vdb.labels_items.CHUNK", 128), self.subTest(call.__name__):
                 tracemalloc.start()
                 call(grid)
@@ -220,6 +221,20 @@ class Components(unittest.TestCase):
             found = labels.components(grid, connectivity)
             self.assertEqual((len(found.labels().values), found.count), (count, grid.count))
             self.assertLess(found.tree_leaf_count, 2)
+
+    def test_a_hundred_thousand_cells(self):
+        """Labels, measures and components of 47^3 touching cells in 128^3 voxels."""
+        values = cells(8, 128, None, 47)
+        grid, (among, counts, means, areas, contacts) = vdb.Grid.from_array(values), expected(values, values != 0, (0, 0, 0), (1, 1, 2))
+        found = labels.measure(grid, (1, 1, 2))
+        self.assertGreater(len(among), 10**5)
+        self.assertEqual((found.values.tolist(), found.voxels.tolist(), found.area.tolist()), (among.tolist(), counts, areas.tolist()))
+        self.assertEqual(dict(zip(among.tolist(), found.centroid.tolist())), means)
+        self.assertEqual(dict(zip(map(tuple, found.pairs.tolist()), found.contacts.tolist())), contacts)
+        box = (0,) * 3, (127,) * 3
+        for connectivity, order in ((6, 1), (26, 3)):
+            made = labels.components(grid, connectivity).to_array(box)[0]
+            np.testing.assert_array_equal(made, in_order(components_of(values, values != 0, order)))
 
     def test_what_stays(self):
         grid = vdb.Grid.from_array(np.ones((2, 2, 2), np.int64), limit=7, metadata={"image_array": "uint8,2,2,2", "patient": "3"})

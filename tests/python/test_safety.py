@@ -1,5 +1,6 @@
 # SPDX-License-Identifier: Apache-2.0
-"""Files are replaced whole: their modes, links, devices and errors. And what the package is: its types, and what it needs."""
+"""Files are replaced whole: their modes, links, devices and errors. And what the package is: its types, the examples of its docstrings, and what it needs."""
+import doctest
 import inspect
 import os
 import stat
@@ -11,10 +12,19 @@ import unittest
 from pathlib import Path
 from unittest import mock
 
-from .support import TOP, np, scenefile, vdb
+from .support import TOP, library_missing, np, scenefile, vdb
 
-from vdb import formats
+from vdb import chunks, formats
 from vdb.files import replacing
+
+
+NAMES = {"np": np, "vdb": vdb, "scenefile": scenefile, "formats": formats, "chunks": chunks}
+
+
+def public(module):
+    """The public classes and functions of a module, but for errors and warnings."""
+    found = {name: getattr(module, name) for name in module.__all__}
+    return {name: it for name, it in found.items() if inspect.isroutine(it) or inspect.isclass(it) and not issubclass(it, Exception)}
 
 
 class Files(unittest.TestCase):
@@ -144,6 +154,24 @@ class Package(unittest.TestCase):
                 self.assertEqual((status, errors), (0, ""), report)
                 use.write_text(use.read_text() + "grid.dilate('2')\n")
                 self.assertRegex(mypy.api.run(words)[0], r'use.py:8: error: Argument 1 to "dilate"')
+
+    @unittest.skipIf(library_missing(), library_missing())
+    def test_each_public_class_and_function_has_examples_that_hold(self):
+        """They run in an empty folder, and none is skipped."""
+        before = os.getcwd()
+        for module in (vdb, scenefile, formats, chunks, vdb.labels):
+            for name, it in public(module).items():
+                with self.subTest(f"{module.__name__}.{name}"), tempfile.TemporaryDirectory() as folder:
+                    self.assertIn("\n\nExamples\n--------\n>>> ", inspect.getdoc(it))
+                    self.assertNotIn("doctest:", it.__doc__)
+                    example = doctest.DocTestParser().get_doctest(it.__doc__, dict(NAMES), name, None, None)
+                    said = []
+                    os.chdir(folder)
+                    try:
+                        ran = doctest.DocTestRunner().run(example, out=said.append)
+                    finally:
+                        os.chdir(before)
+                    self.assertEqual((ran.failed, ran.attempted > 0), (0, True), "".join(said))
 
 
 if __name__ == "__main__":

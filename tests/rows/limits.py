@@ -5,11 +5,12 @@
 Each answer is computed here. A part is a function below, such as `boxes`. The last line is 'N passed, M failed'.
 """
 import argparse
+import math
 import os
 import subprocess
 import sys
 import tempfile
-from itertools import product
+from itertools import combinations, product
 from pathlib import Path
 
 import rows
@@ -272,6 +273,29 @@ def iterations(it):
         it.play(f"{turns} iterations at {far}", script)
 
 
+def cubes(it):
+    """A cube in the middle of the range, or at each face, edge and corner of it, grows over its free faces and shrinks by them."""
+    for ends, (side, kind) in product(product((None, False, True), repeat=3), ((1, "bool"), (8, "i32"), (40, "i64"), (128, "i32"))):
+        low = [-4 if end is None else GREATEST - side + 1 if end else LEAST for end in ends]
+        high, free = [part + side - 1 for part in low], [2 if end is None else 1 for end in ends]
+        edges = sum(first * second for first, second in combinations(free, 2))
+        for times in (1,) if side == 128 else (1, 2, 3, 16):
+            script = Script()
+            script.grid("a", kind, 4096)
+            script.fill("a", kind, low, high, 1, True)
+            if times == 2:
+                script.add(f"voxelise a {at(low)} {at(high)}")
+            script.add(f"dilate a {times}")
+            more = sum(free) * side**2 * times + edges * side * math.comb(times, 2) + math.prod(free) * math.comb(times, 3)
+            script.count("a", side**3 + more)
+            script.add(f"erode a {times}")
+            script.add("bounds a", f"bounds {at(low)} {at(high)}")
+            script.count("a", side**3)
+            script.add(f"erode a {times}")
+            script.count("a", math.prod(max(0, side - times * faces) for faces in free))
+            it.play(f"{times} iterations of a cube of {side} at {low}", script)
+
+
 def metadata(it):
     """Grids get up to 16 pairs, under keys and with texts of each length, and are copied, saved and loaded."""
     made, held = Script(), {}
@@ -333,7 +357,7 @@ def two_sessions(it):
                 it.check(it.run(b"", last) == ([], 0, last), f"{row.place}: a saved scene is saved as another file")
 
 
-PARTS = [boxes, many_grids, full_tables, last_place, one_by_one, two_grids, iterations, metadata, longest_list, longest_script, equal_nodes, two_sessions]
+PARTS = [boxes, many_grids, full_tables, last_place, one_by_one, two_grids, iterations, cubes, metadata, longest_list, longest_script, equal_nodes, two_sessions]
 
 
 def main():

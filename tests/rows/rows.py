@@ -21,7 +21,7 @@ FOLDER = TOP / "tests" / "rows"
 DATA = sorted(FOLDER.glob("*.rows"))
 PROGRAM = TOP / "crates" / "vdb" / "out" / "vdb"
 PATIENCE = 280  # seconds for one row
-HEAD = re.compile(r"(load|saved|status|stderr):(?: (.*))?\Z")
+HEAD = re.compile(r"(load|saved|status|stderr|fault):(?: (.*))?\Z")
 ESCAPE = re.compile(r"\\(n|r|t|\\|x[0-9a-f]{2})|\\")
 ESCAPED = {"n": "\n", "r": "\r", "t": "\t", "\\": "\\"}
 EPILOG = "Example: tests/rows/rows.py tests/rows/boxes.rows examples/ball.rows"
@@ -126,8 +126,9 @@ class Reader:
                 self.need(not self.rows[-1].commands, "a head must stand before the first command of its row")
                 self.head(self.rows[-1], head[1], head[2] or "")
                 self.heads.add(head[1])
-            elif line.startswith(">"):
-                self.rows[-1].commands.append(Command(self.bytes_of(line)))
+            elif line.startswith((">", "+ ")):
+                ok = [Answer("ok", self.line)] if line[0] == "+" else []
+                self.rows[-1].commands.append(Command(self.bytes_of(">" + line[1:] if ok else line), ok))
             else:
                 self.answer(line)
 
@@ -152,7 +153,9 @@ class Reader:
             row.saves, row.saved = True, known[text] if text in known else (row.saved or b"") + self.hexadecimal(text)
         else:
             self.need(not more and text, f"'{word}:' stands twice, or has no text")
-            if word == "stderr":
+            if word == "fault":
+                row.saves, row.given_status, row.stderr = True, 3, f"vdb: load: {text}\n".encode()
+            elif word == "stderr":
                 row.stderr = text.encode() + b"\n"
             else:
                 self.need(re.fullmatch("[0-9]|[1-9][0-9]{1,2}", text), f"{text!r} is no exit status")

@@ -1,7 +1,6 @@
 #!/usr/bin/env python3
 # SPDX-License-Identifier: Apache-2.0
 """Tests of the reader of rows, of the files of rows, and of the player over programs that answer wrongly."""
-import re
 import subprocess
 import sys
 import tempfile
@@ -18,8 +17,7 @@ WHOLE = """\
 # A comment.
 saved: 0a
 saved: ff
-> grid a i32 0
-ok
++ grid a i32 0
 >
 > list a 0 0 0 1 1 1 2
 (allocates nothing)
@@ -38,6 +36,9 @@ error syntax
 
 == nothing is written
 saved: none
+
+== a fault
+fault: magic
 """
 MALFORMED = [
     ("== a\n> a\n", 1, "the first line must say in a comment what the rows show"),
@@ -86,7 +87,7 @@ def read(text):
 
 class Reading(unittest.TestCase):
     def test_whole(self):
-        first, second, third = read(WHOLE)
+        first, second, third, fourth = read(WHOLE)
         self.assertEqual((first.name, first.line, first.load, first.saves, first.saved), ("a grid", 3, None, True, b"\x0a\xff"))
         self.assertEqual((first.status, first.stderr), (0, b""))
         self.assertEqual(first.script, b"grid a i32 0\n\nlist a 0 0 0 1 1 1 2\n")
@@ -94,6 +95,7 @@ class Reading(unittest.TestCase):
         self.assertEqual((second.load, second.saved, second.status), (b"\x0a\xff\x00", b"\x0a\xff\x00", 3))
         self.assertEqual((second.stderr, second.script), (b"vdb: load: magic\n", b"#\t\\\rerror\n"))
         self.assertEqual((third.saves, third.saved, third.status, third.script), (True, None, 0, b""))
+        self.assertEqual((fourth.saves, fourth.saved, fourth.status, fourth.stderr), (True, None, 3, b"vdb: load: magic\n"))
 
     def test_status_of_an_error(self):
         self.assertEqual([row.status for row in read("# a\n== a\n> a\nok\n> b\nerror box\n")], [1])

@@ -1,6 +1,8 @@
 #!/usr/bin/env python3
 # SPDX-License-Identifier: Apache-2.0
-"""Plays all rows through the program `vdb` as the kit compiles it from its sources, unproved: tests/rows/unproved.py
+"""Plays rows through the program `vdb` as the kit compiles it from its sources, unproved: tests/rows/unproved.py [FILE..]
+
+Without a FILE of rows it plays all of them.
 
 `rt try` builds the program with checks of overflow, bounds and memory, and runs it once for each row. It makes no use of a second processor,
 so the rows are shared out to as many calls as half the processors. A row that writes more than a scene file may have is left to the built
@@ -59,17 +61,18 @@ def sum_of_all():
 
 
 def main():
-    if len(sys.argv) > 1:
-        sys.exit(print(__doc__.strip()) if sys.argv[1:] == ["--help"] else 2)
+    if sys.argv[1:] == ["--help"]:
+        sys.exit(print(__doc__.strip()))
+    chosen = [Path(it) for it in sys.argv[1:]] or FILES
     if not shutil.which("rt"):
         sys.exit("unproved.py: rt, the command of Rattle's kit, is not on the PATH")
     try:
-        known = [row for file in FILES for row in read(file)]
+        known = [row for file in chosen for row in read(file)]
     except (Malformed, OSError) as error:
         sys.exit(f"unproved.py: {error}")
     rows, left = [row for row in known if row.stderr != TOO_LONG], [row for row in known if row.stderr == TOO_LONG]
     before = sum_of_all()
-    if PASSED.exists() and PASSED.read_text() == before:
+    if chosen == FILES and PASSED.exists() and PASSED.read_text() == before:
         print(f"kept from earlier runs: {len(rows)} of {len(rows)} unproved rows\n{len(rows)} passed, 0 failed")
         return
     print(*(f"left to the built program: {row.place}" for row in left), sep="\n", flush=True)
@@ -80,7 +83,7 @@ def main():
     print("".join(f"{it}\n" for it in failed) + f"{len(rows) - len(failed)} passed, {len(failed)} failed")
     if failed or not rows:
         sys.exit(1)
-    if sum_of_all() == before:
+    if chosen == FILES and sum_of_all() == before:
         PASSED.parent.mkdir(exist_ok=True)
         PASSED.write_text(before)
 

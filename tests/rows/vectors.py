@@ -25,8 +25,12 @@ MADE = {name: (row.saved, row.script) for name, row in SCENES.items() if row.loa
 # each file of version 1 with the file that is saved after it is loaded
 OLDER = {name: (row.load, row.saved) for name, row in SCENES.items() if name.endswith("of version 1") and not row.script}
 
+# a leaf whose 512 voxels are all 5 and active, written voxel by voxel
+EQUAL_VOXELS = b"\x03\x02\x00" + b"".join(index.to_bytes(2, "big") + b"\x02\x00\x00\x00\x05" for index in range(512))
+
 # files that are rejected, each with the word of its fault
 REJECTED = [(name, row.stderr.decode().split()[-1], row.load) for name, row in rows_of("bad-scene-files").items()]
+REJECTED.append(("a leaf of equal voxels", "constant-node", ACTIVE_1[:41] + EQUAL_VOXELS))
 
 # the files whose prefixes and extensions are all rejected
 CUT = {
@@ -43,10 +47,6 @@ CUT = {
 def changed(text, at, *values):
     """Returns a file with these bytes from an offset on."""
     return text[:at] + bytes(values) + text[at + len(values) :]
-
-
-# a leaf whose 512 voxels are all 5 and active, written voxel by voxel
-EQUAL_VOXELS = b"\x03\x02\x00" + b"".join(index.to_bytes(2, "big") + b"\x02\x00\x00\x00\x05" for index in range(512))
 
 
 def with_root(version, name, bodies):

@@ -1,11 +1,11 @@
 -- Fields of fixed lengths.
-use Rattle.vdb_file.proofs.Common.{◌≡◌, ℕ, ◌+◌, ◌-◌, ◌*◌, ◌<◌, ◌≤◌, List, [], ◌∷◌, ◌++◌, length, take, drop, get_or, refl, sym, ap, subst, ◌∙◌, append_assoc, take-append-drop, length-take, arith, common_steps, Bool, true, false, ◌^◌, min, nat_le, if◌then◌else◌, Option, Some, None, w16, w32, to_be_bytes, Consumes, IsAtEnd, Keeps, prepend_known, Position, Stock, Took, byte_total, position}
-use Rattle.std.proofs.Common.{◌/◌, ◌%◌, drop-drop}
+use Rattle.vdb_file.proofs.Common.{◌≡◌, ℕ, ◌+◌, ◌-◌, ◌≤◌, List, [], ◌++◌, length, take, drop, refl, sym, ap, subst, ◌∙◌, append_assoc, take-append-drop, length-drop, length-take, take-take, arith, common_steps, Bool, true, false, ◌^◌, min, nat_le, if◌then◌else◌, Option, Some, None, Consumes, IsAtEnd, Keeps, prepend_known, Position, Stock, Took, byte_total, position}
+use Rattle.std.proofs.Common.{drop-drop}
 use Rattle.std.specs.List.{slice_range}
 use Rattle.std.proofs.lemmas.List.{drop-take}
 use Rattle.std.proofs.KnownBytes.{Consumes-kept}
 use Rattle.vdb_file.specs.Readers.{GaveAtMost}
-use Rattle.vdb_file.specs.internal.Reading.{GaveWithin, given_count}
+use Rattle.vdb_file.specs.internal.Reading.{GaveWithin, given_count, passed}
 use Rattle.vdb_file.proofs.Fronts.{took_both}
 
 -- ---- pieces of a field
@@ -30,6 +30,31 @@ pub front_read : (old new : Stock) (known : Option (List ℕ)) (text : List ℕ)
 front_read old new known text n same within fits left capacity =
     subst (Took (position old known) (position new known)) (sym same)
     (record { bytes = front_taken known n old.unread new.unread left; fewer = omega (arith, length-take n old.unread, within, fits, capacity) })
+
+-- a part of the first of the unread bytes
+pub part_read : (s : Stock) (known : Option (List ℕ)) (bytes : List ℕ) (at n : ℕ) → bytes ≡ take (length bytes) s.unread → length bytes ≤ s.capacity → at + n ≤ length bytes
+    → Took (position (passed at s) known) (position (passed (at + n) s) known) (slice_range bytes at (at + n))
+part_read s known bytes at n same fits less =
+    let m = length bytes - at in
+    let span : at + m ≡ length bytes = omega (arith, less) in
+    let few : at + n - at ≡ n = omega arith in
+    let long = ap length same in
+    front_read (passed at s) (passed (at + n) s) known (slice_range bytes at (at + n)) n
+    (ap (λ k. take k (drop at bytes)) few
+    ∙ ap (λ l. take n (drop at l)) (same ∙ ap (λ k. take k s.unread) (sym span))
+    ∙ ap (take n) (drop-take at m s.unread)
+    ∙ take-take n m (drop at s.unread) (omega (arith, less)))
+    (omega (arith, length-drop at s.unread, long, length-take (length bytes) s.unread, less))
+    (omega (arith, fits, less))
+    (sym (drop-drop n at s.unread ∙ ap (λ k. drop k s.unread) (omega arith)))
+    (omega arith)
+
+-- the position after some bytes were read
+pub same_position : (old new : Stock) (known : Option (List ℕ)) (n m : ℕ) → m ≡ n → new.unread ≡ drop n old.unread → new.capacity ≡ old.capacity - n → position (passed m old) known ≡ position new known
+same_position old new known n m e left capacity =
+    let unread : drop m old.unread ≡ new.unread = ap (λ k. drop k old.unread) e ∙ sym left in
+    let more : old.capacity - m ≡ new.capacity = omega (arith, e, capacity) in
+    λ j. record { known = prepend_known (unread j) known; capacity = more j }
 
 -- a field goes on with unread bytes
 pub piece_taken : (old : Position) (mid new : Stock) (known : Option (List ℕ)) (field grown : List ℕ) (at n : ℕ) → Took old (position mid known) (take at field) → take (at + n) grown ≡ take at field ++ take n mid.unread

@@ -4,13 +4,13 @@ use Rattle.std.specs.Prelude.{IfOk}
 use Rattle.std.proofs.lemmas.List.{get_or_default}
 use Rattle.vdb_coord.proofs.Positions.{entries_is}
 use Rattle.vdb_node.specs.Leaf.{Leaf as LeafOf}
-use Rattle.vdb_file.specs.internal.LeafVoxels.{IsVoxel, voxel_bytes}
+use Rattle.vdb_file.specs.internal.LeafVoxels.{IsFilled, IsVoxel, voxel_bytes}
 use Rattle.vdb_file.proofs.Unambiguous.{IsCode, says_fixed}
 use Rattle.vdb_file.proofs.Numbers.{says_u16}
 use Rattle.vdb_file.proofs.ValueCodes.{bytes_count}
 use Rattle.vdb_file.proofs.Agreement.{Agree, AreValues, is_held}
 use Rattle.vdb_file.proofs.Ordered.{by_member, last_more, last_of, none_kept}
-use Rattle.vdb_file.proofs.Fronts.{fails_after, fails_first, fails_none, fails_turn, took_nothing}
+use Rattle.vdb_file.proofs.Fronts.{fails_after, fails_first, fails_none, fails_turn}
 use Rattle.vdb_file.proofs.RowFrames.{below_member, corner_in_block, member_below}
 use Rattle.vdb_file.proofs.Rows.{Adds, Row, adds_outside, held, held_more, texts_more}
 use Rattle.vdb_file.proofs.RowReads.{IsNextOf, entry_bytes, entry_read, no_row, within}
@@ -165,15 +165,15 @@ module _ {V : Type 0} {eq : V → V → Bool} {value_bytes : V → List ℕ} {P 
     -- ---- the voxels read so far
 
     -- at first no voxel is read
-    pub none_read : (leaf : LeafOf V) (old : Position) (n : ℕ) → entries bits Leaf ≡ n → IsConstantLeaf leaf n (off background) → HasRead eq value_bytes bits background p leaf old old 0 None
-    none_read leaf old n e constant =
+    pub none_read : (leaf : LeafOf V) (old now : Position) → Took old now [] → (n : ℕ) → entries bits Leaf ≡ n → IsConstantLeaf leaf n (off background) → HasRead eq value_bytes bits background p leaf old now 0 None
+    none_read leaf old now nothing n e constant =
         let empty : held eq row (shown leaf) ≡ [] =
         none_kept (is_held eq row.box (shown leaf)) row.keys
         (by_member (λ i. is_held eq row.box (shown leaf) i ≡ false) row.keys
         (λ i m. let less = member_below bits Leaf i m in
         ap not (background_from (shown leaf) i less (entry_cell leaf i less ∙ constant (off background) i (omega (arith, less, e)))))) in
         record {
-          took = subst (λ (ks : List ℕ). Took old old (flat_map (λ i. to_be_bytes w16 i ++ voxel_body eq value_bytes bits (shown leaf) (at i)) ks)) (sym empty) (took_nothing old);
+          took = subst (λ (ks : List ℕ). Took old now (flat_map (λ i. to_be_bytes w16 i ++ voxel_body eq value_bytes bits (shown leaf) (at i)) ks)) (sym empty) nothing;
           count = ap length empty;
           last = sym (ap (last_of None) empty);
         }
@@ -216,9 +216,12 @@ module _ {V : Type 0} {eq : V → V → Bool} {value_bytes : V → List ℕ} {P 
 
     -- ---- faults
 
-    -- the fields with this many listed voxels
+    -- the fields with this many listed voxels, and those of them whose cells differ
     abbrev pub IsListed : ℕ → Field V → Type 0
-    IsListed count f = IsMixed eq P background bits p f × (voxel_count eq value_bytes bits p f ≡ count)
+    IsListed count f = IsFilled eq value_bytes P background bits p count f
+
+    abbrev pub IsUnlike : ℕ → Field V → Type 0
+    IsUnlike count f = IsMixed eq P background bits p f × (voxel_count eq value_bytes bits p f ≡ count)
 
     -- the empty text is a code for one number
     no_text : (count : ℕ) → IsCode (λ n. n ≡ count) (λ (n : ℕ). [])
@@ -236,19 +239,29 @@ module _ {V : Type 0} {eq : V → V → Bool} {value_bytes : V → List ℕ} {P 
         })
         (λ e next. refl) h
 
-    module _ (leaf : LeafOf V) (fits : P background) (cells : AreCells P bits background leaf) (fault : LoadFault) (old mid : Position) (n count : ℕ) (before : Option ℕ) (read : HasRead eq value_bytes bits background p leaf old mid n before) where
+    module _ (leaf : LeafOf V) (fits : P background) (cells : AreCells P bits background leaf) (old mid : Position) (n count : ℕ) (before : Option ℕ) (read : HasRead eq value_bytes bits background p leaf old mid n before) where
       -- a voxel was due, and none is ahead
-      pub voxels_fail : n < count → (most : ℕ) → most ≡ entries bits Leaf → Fails (IsVoxel eq P background most before) (voxel_bytes eq value_bytes) fault mid → Fails (IsListed count) (voxels_bytes eq value_bytes bits p) fault old
-      voxels_fail more most all h =
+      pub voxels_fail : (fault : LoadFault) → n < count → (most : ℕ) → most ≡ entries bits Leaf → Fails (IsVoxel eq P background most before) (voxel_bytes eq value_bytes) fault mid → Fails (IsListed count) (voxels_bytes eq value_bytes bits p) fault old
+      voxels_fail fault more most all h =
           let size : length (held eq row (shown leaf)) ≡ n = read.count in
-          within values (is_leaf_row values bits few p) background (λ _. []) (λ m. m ≡ count) (no_text count) (IsListed count) (λ f r. r.0.values) (λ f r. r.1) fault old mid (shown leaf) (shown_values leaf fits cells) count refl
+          within values (is_leaf_row values bits few p) background (λ _. []) (λ m. m ≡ count) (no_text count) (IsListed count) (λ f r. r.values) (λ f r. r.counted) fault old mid (shown leaf) (shown_values leaf fits cells) count refl
           (omega (arith, size, more)) read.took (subst (λ (b : Option ℕ). Fails (IsNextOf eq P row background b) (entry_bytes row) fault mid) read.last (voxel_fails most all before fault mid h))
 
+      -- all voxels were read
+      pub all_read : n ≡ count → IsListed count (shown leaf) × Took old mid (voxels_bytes eq value_bytes bits p (shown leaf))
+      all_read done = (record { values = shown_values leaf fits cells; counted = read.count ∙ done }, read.took)
+
+    module _ (fault : LoadFault) (old : Position) (count : ℕ) where
+      -- no field with so many voxels is ahead
+      pub none_unlike : Fails (IsListed count) (voxels_bytes eq value_bytes bits p) fault old → Fails (IsUnlike count) (voxels_bytes eq value_bytes bits p) fault old
+      none_unlike h =
+          fails_turn (IsUnlike count) (voxels_bytes eq value_bytes bits p) (IsListed count) (voxels_bytes eq value_bytes bits p) (λ f. f) fault old (λ f r. record { values = r.0.values; counted = r.1 }) (λ f r. refl) h
+
       -- all voxels have one cell
-      pub voxels_alike : n ≡ count → (c : Cell V) (m : ℕ) → entries bits Leaf ≡ m → IsConstantLeaf leaf m c → Fails (IsListed count) (voxels_bytes eq value_bytes bits p) fault old
-      voxels_alike done c m all constant =
-          no_row values (is_leaf_row values bits few p) background (λ _. []) (λ k. k ≡ count) (no_text count) (IsListed count) (λ f r. r.0.values) (λ f r. r.1) fault old mid (shown leaf) (shown_values leaf fits cells)
-          (read.count ∙ done) read.took
+      pub voxels_alike : (leaf : LeafOf V) (mid : Position) → IsListed count (shown leaf) → Took old mid (voxels_bytes eq value_bytes bits p (shown leaf)) → (c : Cell V) (m : ℕ) → entries bits Leaf ≡ m → IsConstantLeaf leaf m c → Fails (IsUnlike count) (voxels_bytes eq value_bytes bits p) fault old
+      voxels_alike leaf mid is took c m all constant =
+          no_row values (is_leaf_row values bits few p) background (λ _. []) (λ k. k ≡ count) (no_text count) (IsUnlike count) (λ f r. r.0.values) (λ f r. r.1) fault old mid (shown leaf) is.values
+          is.counted took
           (λ f r agree. clash (is_constant eq f box)
           (constant_leaf f leaf c (λ d i less. constant d i (omega (arith, less, all))) (agree_from_entries values bits few p Leaf (shown leaf) f agree)) r.0.differs)
 

@@ -53,7 +53,7 @@ SetsVoxel-leaf_of {V} old new n states states' i cell h here others here' others
     }
 
 -- if the value and the state stay, the cell does
-cell_kept : {V : Type 0} (old new : ℕ → V) (n : ℕ) (states states' : List Bool) (d : Cell V) (i : ℕ) → new i ≡ old i → is_on states' i ≡ is_on states i
+pub cell_kept : {V : Type 0} (old new : ℕ → V) (n : ℕ) (states states' : List Bool) (d : Cell V) (i : ℕ) → new i ≡ old i → is_on states' i ≡ is_on states i
     → cell_in d (leaf_of new n states') i ≡ cell_in d (leaf_of old n states) i
 cell_kept old new n states states' d i value state =
     elim (cases_lt i n) [

@@ -19,7 +19,7 @@ has_bit-shl_low a k j h low =
     rw (bit_at_wrapped (a * 2 ^ k) 64 j h, zero_there) refl
 
 -- and the others are those of a
-has_bit-shl_high : (a k j : ℕ) → 0 < 2 ^ k → j < 64 → k ≤ j → has_bit (a * 2 ^ k % 2 ^ 64) j ≡ has_bit a (j - k)
+pub has_bit-shl_high : (a k j : ℕ) → 0 < 2 ^ k → j < 64 → k ≤ j → has_bit (a * 2 ^ k % 2 ^ 64) j ≡ has_bit a (j - k)
 has_bit-shl_high a k j some h high =
     let whole : a * 2 ^ k + 0 ≡ a * 2 ^ k = omega arith in
     let there : bit_at (a * 2 ^ k) j ≡ bit_at a (j - k) = ap (λ t. bit_at t j) (sym whole) ∙ bit_at_cat_high a k 0 j some high in

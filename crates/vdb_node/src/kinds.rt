@@ -55,6 +55,12 @@ impl<const W: usize> Stored<W> for bool {
         row.set_run(from, to, value);
     }
 
+    fn set_values(row: &mut Mask<W>, from: u32, values: &[bool]) {
+        'values: for i in 0..values.len() {
+            put(row, from + i as u32, values[i]);
+        }
+    }
+
     fn are_alike(row: &Mask<W>, count: u32) -> bool {
         is_uniform(row, count)
     }
@@ -148,6 +154,11 @@ impl<const W: usize> Stored<W> for i32 {
         row.set_run(from, to, value);
     }
 
+    #[inline(always)]
+    fn set_values(row: &mut Values<i32>, from: u32, values: &[i32]) {
+        row.copy_in(from, values);
+    }
+
     fn are_alike(row: &Values<i32>, count: u32) -> bool {
         row.are_alike(count)
     }
@@ -222,6 +233,11 @@ impl<const W: usize> Stored<W> for i64 {
     #[inline(always)]
     fn set_run(row: &mut Values<i64>, from: u32, to: u32, value: i64) {
         row.set_run(from, to, value);
+    }
+
+    #[inline(always)]
+    fn set_values(row: &mut Values<i64>, from: u32, values: &[i64]) {
+        row.copy_in(from, values);
     }
 
     fn are_alike(row: &Values<i64>, count: u32) -> bool {

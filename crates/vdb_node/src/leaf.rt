@@ -1,6 +1,6 @@
 //! Leaves.
 
-ghost use Rattle.std.specs.Prelude.{◌≡◌, ◌+◌, ◌*◌, ◌<◌, ◌≤◌, ◌↔◌, ℕ, false, if◌then◌else◌, length, slice_index_or, IfOk, IsOk, IsTrue, Some};
+ghost use Rattle.std.specs.Prelude.{◌≡◌, ◌+◌, ◌*◌, ◌%◌, ◌<◌, ◌≤◌, ◌↔◌, ℕ, false, if◌then◌else◌, length, slice_index_or, IfOk, IsOk, IsTrue, Some};
 ghost use Rattle.vdb_mask.specs.Mask.{is_on, on_count};
 ghost use Rattle.vdb_node.specs.Blends.{AreBlended, LacksBlend};
 ghost use Rattle.vdb_node.specs.Bounds.{IsActiveBox};
@@ -11,7 +11,7 @@ ghost use Rattle.vdb_value.specs.declared.Kind.TheVariants.{Bool as truths};
 
 use crate::Stored;
 use crate::bounds::{VoxelBox, active_box};
-use crate::uniform::{cut, entries, is_uniform, join, put};
+use crate::uniform::{cut, entries, is_uniform, join, put, put_bits};
 use std::alloc::{AllocError, Global};
 use std::marker::Model;
 use vdb_mask::Mask;
@@ -132,6 +132,23 @@ impl<V: Stored<W>, const LOG2: u32, const W: usize> Leaf<V, LOG2, W> {
     {
         V::set_run(&mut self.row, from, to, cell.value);
         self.states.set_run(from, to, cell.on);
+    }
+
+    /// Sets the cells from index `from` on: each takes its value from a slice and its state from the
+    /// mask at the same index. Every other stays. One word of the leaf's mask has the states of all.
+    /// `LeafNode::buffer().data()`, to a run of which it copies, and `LeafNode::setValueMask(mask)`.
+    #[inline(always)]
+    pub fn set_cells(&mut self, from: u32, values: &[V], states: &Mask<1>)
+        requires within { from + length values.now ≤ entry_count LOG2 }
+        requires one_word { from % 64 + length values.now ≤ 64 }
+        ensures cells { (d : Cell V) (i : ℕ) → i < length values.now → cell_in d self.new (from + i)
+            ≡ record { value = slice_index_or values.now i d.value; on = is_on states.now i } }
+        ensures before { (d : Cell V) (i : ℕ) → i < from → cell_in d self.new i ≡ cell_in d self.old i }
+        ensures after { (d : Cell V) (i : ℕ) → from + length values.now ≤ i
+            → cell_in d self.new i ≡ cell_in d self.old i }
+    {
+        V::set_values(&mut self.row, from, values);
+        put_bits(&mut self.states, from, values.len() as u32, states);
     }
 
     /// Returns the cell that every entry has, or `None` if two differ. `LeafNode::isConstant`,

@@ -81,6 +81,17 @@ pub trait Stored<const W: usize>: Voxel {
         ensures before { (i : ℕ) → i < from → value_in row.new i ≡ value_in row.old i }
         ensures after { (i : ℕ) → to ≤ i → value_in row.new i ≡ value_in row.old i };
 
+    /// Sets the values from index `from` on to those of a slice; every other stays.
+    fn set_values(row: &mut Self::Row, from: u32, values: &[Self])
+        requires few_words { W ≤ 512 }
+        requires mask_capacity { from + length values.now ≤ 64 * W }
+        requires within { from + length values.now ≤ row_len row.old }
+        ensures capacity { row_len row.old ≤ row_len row.new }
+        ensures run { (i : ℕ) (d : Self) → i < length values.now
+            → value_in row.new (from + i) ≡ slice_index_or values.now i d }
+        ensures before { (i : ℕ) → i < from → value_in row.new i ≡ value_in row.old i }
+        ensures after { (i : ℕ) → from + length values.now ≤ i → value_in row.new i ≡ value_in row.old i };
+
     /// Returns whether the first `count` values are all equal.
     fn are_alike(row: &Self::Row, count: u32) -> bool
         requires few_words { W ≤ 512 }

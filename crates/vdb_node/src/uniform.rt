@@ -1,7 +1,7 @@
 //! Masks whose first values alone belong to a node's entries.
 
-ghost use Rattle.std.specs.Prelude.{◌≡◌, ◌≢◌, ◌*◌, ◌<◌, ◌≤◌, ◌↔◌, ◌||◌, ℕ, false, IsTrue};
-ghost use Rattle.vdb_mask.specs.Mask.{is_on};
+ghost use Rattle.std.specs.Prelude.{◌≡◌, ◌≢◌, ◌+◌, ◌*◌, ◌%◌, ◌<◌, ◌≤◌, ◌↔◌, ◌||◌, ℕ, false, IsTrue};
+ghost use Rattle.vdb_mask.specs.Mask.{has_bit, is_on};
 ghost use Rattle.vdb_node.specs.Nodes.{entry_count, IsOffFrom};
 
 use vdb_mask::Mask;
@@ -25,6 +25,36 @@ pub fn put<const W: usize>(mask: &mut Mask<W>, i: u32, on: bool)
         mask.set(i);
     } else {
         mask.clear(i);
+    }
+}
+
+/// Returns the word with `count` bits from bit `low` on set to the first of another word.
+#[inline(always)]
+fn with_bits(word: u64, low: u32, count: u32, bits: u64) -> u64
+    requires some { 0 < count }
+    requires ends { low + count ≤ 64 }
+    ensures run { (j : ℕ) → j < count → has_bit result (low + j) ≡ has_bit bits j }
+    ensures before { (j : ℕ) → j < low → has_bit result j ≡ has_bit word j }
+    ensures after { (j : ℕ) → low + count ≤ j → j < 64 → has_bit result j ≡ has_bit word j }
+{
+    let high = low + count;
+    let run = (u64::MAX << low) & (u64::MAX >> (64 - high));
+    word & !run | bits << low & run
+}
+
+/// Sets `count` values from index `from` on, which one word has, to the other mask's first; every
+/// other stays.
+#[inline(always)]
+pub fn put_bits<const W: usize>(mask: &mut Mask<W>, from: u32, count: u32, bits: &Mask<1>)
+    requires within { from + count ≤ 64 * W }
+    requires one_word { from % 64 + count ≤ 64 }
+    ensures run { (i : ℕ) → i < count → is_on mask.new (from + i) ≡ is_on bits.now i }
+    ensures before { (i : ℕ) → i < from → is_on mask.new i ≡ is_on mask.old i }
+    ensures after { (i : ℕ) → from + count ≤ i → is_on mask.new i ≡ is_on mask.old i }
+{
+    if count > 0 {
+        let word = with_bits(mask.word(from / 64), from % 64, count, bits.word(0));
+        mask.set_word(from / 64, word);
     }
 }
 

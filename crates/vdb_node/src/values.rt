@@ -228,6 +228,25 @@ impl<V: Voxel> Values<V> {
         }
     }
 
+    /// Sets the values from index `from` on to those of a slice; every other stays.
+    #[inline(always)]
+    pub(crate) fn copy_in(&mut self, from: u32, values: &[V])
+        requires few { from + length values.now ≤ 32768 }
+        requires within { from + length values.now ≤ capacity self.old }
+        ensures capacity { capacity self.old ≤ capacity self.new }
+        ensures run { (i : ℕ) (d : V) → i < length values.now
+            → value_of self.new (from + i) ≡ slice_index_or values.now i d }
+        ensures before { (i : ℕ) → i < from → value_of self.new i ≡ value_of self.old i }
+        ensures after { (i : ℕ) → from + length values.now ≤ i → value_of self.new i ≡ value_of self.old i }
+    {
+        let first = from as usize;
+        let end = first + values.len();
+        if self.first.len() < end {
+            self.write_below(end.div_ceil(64) * 64);
+        }
+        self.first[first..end].copy_from_slice(values);
+    }
+
     /// Returns whether the first `count` values are all equal.
     pub(crate) fn are_alike(&self, count: u32) -> bool
         requires { 0 < count }

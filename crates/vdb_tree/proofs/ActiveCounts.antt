@@ -1,5 +1,5 @@
 -- The active voxels of a block, counted entry by entry.
-use Rattle.vdb_tree.proofs.Common.{◌≡◌, ◌⊎◌, inl, inr, sym, ap, ◌∙◌, refl, ℕ, ◌+◌, ◌<◌, ◌≤◌, ◌^◌, Bool, true, false, not, ◌&&◌, List, [], length, arith, IsTrue, Option, Some, None, slice_index_or, count_by, filter, is_member, length-filter, length-le_from_is_member, block_around, block_number, entries, node_bits, offset, sub_block, AreBits, Box, coord_eq, coordinates, everywhere, is_inside, volume, Bits, Coord, Level, Leaf, Lower, Upper, not_true, member_passing, count_by_members, distinct_filter, distinct_coordinates, block_in_range, coord_equiv, coord_exact, entry_holds, in_entry, inside_numbered, number_in_block, entries_is, offset_below, IsFirstWithout, IsInactiveTile, entry_count, Entry, Tile, Cell, IsInactiveFrom, IsNextActive, IsConstantBlock, Field, Layout, cell_at, field_of, count}
+use Rattle.vdb_tree.proofs.Common.{◌≡◌, ◌⊎◌, inl, inr, sym, ap, ◌∙◌, refl, ℕ, ◌+◌, ◌<◌, ◌≤◌, ◌^◌, Bool, true, false, not, ◌&&◌, List, [], length, arith, IsTrue, Option, Some, None, slice_index_or, count_by, filter, is_member, length-filter, length-le_from_is_member, block_around, block_number, entries, node_bits, offset, sub_block, AreBits, Box, coord_eq, coordinates, everywhere, is_inside, volume, Bits, Coord, Level, Leaf, Lower, Upper, not_true, member_passing, count_by_members, distinct_filter, distinct_coordinates, block_in_range, coord_equiv, coord_exact, entry_holds, in_entry, inside_numbered, number_in_block, entries_is, offset_below, IsFirstWithout, IsInactiveTile, entry_count, Entry, Tile, Cell, IsCountTo, IsInactiveFrom, IsNextActive, IsConstantBlock, Field, Layout, cell_at, field_of, count}
 use Rattle.std.proofs.Common.{ltb}
 use Rattle.std.specs.List.{IsDistinct}
 use Rattle.std.proofs.lemmas.Bool.{lt-ltb, ltb-true}
@@ -92,6 +92,10 @@ from_test a n h =
       | inr k ↦ k
     ]
 
+-- a count of all doesn't stop
+pub all_counted : (enough all counted : ℕ) → counted ≡ all → IsCountTo enough all counted
+all_counted enough all counted h = (omega (arith, h), λ less. h)
+
 -- ---- the entries of a block
 
 module _ {V : Type 0} (f : Field V) (bits : Bits) (level : Level) (p : Coord) where
@@ -152,12 +156,41 @@ module _ {V : Type 0} (f : Field V) (bits : Bits) (level : Level) (p : Coord) wh
         let few = length-filter on (coordinates part) in
         omega (arith, split, few)
 
-    pub below_next : (total more : ℕ) → total ≡ active_below from → more ≡ count f part → total + more ≡ active_below (index + 1)
-    below_next total more h k = let sum = below_more in omega (arith, sum, h, k)
+    pub below_next : (enough total more : ℕ) (b : Box) → part ≡ b → IsCountTo enough (active_below from) total → IsCountTo enough (count f b) more → IsCountTo enough (active_below (index + 1)) (total + more)
+    below_next enough total more b same h k =
+        let sum = ap (λ (x : Box). count f x + active_below from) (sym same) ∙ below_more in
+        let most = h.0 in
+        let mine = k.0 in (
+          omega (arith, sum, most, mine),
+          λ less.
+              let first = h.1 (omega (arith, less)) in
+              let rest = k.1 (omega (arith, less)) in
+              omega (arith, sum, first, rest),
+        )
+
+  -- entries below an index have no more active voxels than all
+  below_le : (n : ℕ) → active_below n ≤ count f block
+  below_le n =
+      let first = filter (λ q. on q && ltb (offset bits level q) n) (coordinates block) in
+      let split =
+      count_split block on (λ q. ltb (offset bits level q) n) (λ q. on q && not (ltb (offset bits level q) n)) first
+      (distinct_filter coord_eq (λ q. on q && ltb (offset bits level q) n) (coordinates block) (distinct_coordinates block))
+      (λ q. member_passing block (λ r. on r && ltb (offset bits level r) n) q ∙ grouped (is_inside block q) (on q) (ltb (offset bits level q) n))
+      (λ q. sym (grouped (is_inside block q) (on q) (not (ltb (offset bits level q) n)))) in
+      let few = length-filter (λ q. on q && ltb (offset bits level q) n) (coordinates block) in
+      omega (arith, split, few)
+    where
+      grouped : (i o l : Bool) → (i && (o && l)) ≡ ((i && o) && l)
+      grouped true o l = refl
+      grouped false o l = refl
+
+  -- a count of the entries below an index that stops is one of all
+  pub below_enough : (enough n total : ℕ) → IsCountTo enough (active_below n) total → enough ≤ total → IsCountTo enough (count f block) total
+  below_enough enough n total h stops = let most = h.0 in let few = below_le n in (omega (arith, most, few), λ less. absurd (omega (arith, stops, less)))
 
   -- if the remaining entries are inactive, all active voxels are counted
-  pub below_all : (from total : ℕ) → IsInactiveFrom bits f level p from (entries bits level) → total ≡ active_below from → total ≡ count f block
-  below_all from total inactive h = h ∙ count_listed block (λ q. on q && ltb (offset bits level q) from) (filter on (coordinates block)) (distinct_filter coord_eq on (coordinates block) (distinct_coordinates block))
+  pub below_all : (from : ℕ) → IsInactiveFrom bits f level p from (entries bits level) → active_below from ≡ count f block
+  below_all from inactive = count_listed block (λ q. on q && ltb (offset bits level q) from) (filter on (coordinates block)) (distinct_filter coord_eq on (coordinates block) (distinct_coordinates block))
       (λ q. member_passing block on q ∙ step (is_inside block q) (on q) (ltb (offset bits level q) from) (λ i gone. inactive q (in_block q i) (from_test (offset bits level q) from gone) (offset_below bits level q)))
       ∙ length-filter on (coordinates block)
     where
@@ -177,15 +210,9 @@ module _ {V : Type 0} (f : Field V) (bits : Bits) (level : Level) (p : Coord) wh
         let all : length (coordinates everywhere) ≡ 2 ^ 96 = length_coordinates everywhere in
         omega (arith, few, all)
 
-    pub below_few : (n total : ℕ) → total ≡ active_below n → total ≤ 2 ^ 96
+    pub below_few : (n total : ℕ) → total ≤ active_below n → total ≤ 2 ^ 96
     below_few n total h =
         let few = count_by-le-length (λ q. on q && ltb (offset bits level q) n) (coordinates block) in
-        let size = block_few in
-        omega (arith, few, size, h)
-
-    pub count_few : (total : ℕ) → total ≡ count f block → total ≤ 2 ^ 96
-    count_few total h =
-        let few = count_by-le-length on (coordinates block) in
         let size = block_few in
         omega (arith, few, size, h)
 

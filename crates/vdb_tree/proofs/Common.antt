@@ -74,7 +74,7 @@ pub use Rattle.vdb_tree.specs.declared.queries.parts.Skip.{Skip}
 pub use Rattle.vdb_tree.specs.declared.queries.parts.Skip.TheVariants.{Background, Inactive}
 pub use Rattle.vdb_tree.specs.declared.refusal.TreeRefusal.{TreeRefusal}
 pub use Rattle.vdb_tree.specs.declared.refusal.TreeRefusal.TheVariants.{Memory, RootLimit}
-pub use Rattle.vdb_tree.specs.internal.Active.{HasActive, IsInactive, IsInactiveFrom, IsNextActive}
+pub use Rattle.vdb_tree.specs.internal.Active.{HasActive, IsCountTo, IsInactive, IsInactiveFrom, IsNextActive}
 pub use Rattle.vdb_tree.specs.internal.ActiveCapacity.{HasCapacityForActive, IsActiveKey}
 pub use Rattle.vdb_tree.specs.internal.Altered.{AreSameCells, IsAlteredIn}
 pub use Rattle.vdb_tree.specs.internal.Children.{IsChildless, IsNextCornerAt, IsTiled}

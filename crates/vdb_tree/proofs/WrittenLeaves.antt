@@ -1,11 +1,12 @@
 -- What becomes of a field when a leaf extent gets the cells of a leaf, or one cell.
-use Rattle.vdb_tree.proofs.Common.{◌≡◌, ◌≢◌, ◌<◌, ℕ, true, false, IsTrue, refl, sym, ap, subst, ◌∙◌, inl, inr, length, get_or_default, block_around, block_number, key, offset, sub_block, AreBits, everywhere, is_inside, Bits, Coord, Leaf, not_true, block_in_range, corner_of_entry, inside_around, inside_numbered, lower_from_leaf, number_in_block, upper_from_lower, entries_is, offset_below, is_on, cell_in, IsConstantLeaf, entry_count, Tile, Cell, Fills, Keeps, Field, fill, off, AreSameCells, IsAlteredIn, Layout, background_cell, cell_at, field_of, lower_entry, with_leaf}
+use Rattle.vdb_tree.proofs.Common.{◌≡◌, ◌≢◌, ◌<◌, ℕ, true, false, IsTrue, refl, sym, ap, subst, ◌∙◌, inl, inr, length, get_or_default, block_around, block_number, key, offset, sub_block, AreBits, everywhere, is_inside, Bits, Coord, Leaf, Lower, Upper, not_true, block_in_range, corner_of_entry, inside_around, inside_numbered, lower_from_leaf, number_in_block, upper_from_lower, entries_is, offset_below, is_on, cell_in, IsConstantLeaf, entry_count, Tile, Cell, Fills, Keeps, KeepsElsewhere, KeepsUppers, Turns, Field, fill, off, AreSameCells, IsAlteredIn, Layout, background_cell, cell_at, field_of, lower_entry, with_leaf}
 use Rattle.vdb_node.specs.Leaf.{Leaf as LeafOf}
 use Rattle.vdb_tree.proofs.Descents.{lower_by_block, tile_cell}
 use Rattle.vdb_tree.proofs.Equations.{keeps_field, same_field}
 use Rattle.vdb_tree.proofs.Fields.{cell_inside, same_cells}
 use Rattle.vdb_tree.proofs.Levels.{coord_cases, like_coords, unlike_coords}
 use Rattle.vdb_tree.proofs.Needed.{tile_block}
+use Rattle.vdb_tree.proofs.Passes.{root_entry_same, upper_entry_same}
 
 -- the cell at an index of a leaf that has a value there
 default_cell : {V : Type 0} (leaf : LeafOf V) (i : ℕ) (c d : Cell V) → i < length leaf.values → cell_in c leaf i ≡ cell_in d leaf i
@@ -96,3 +97,9 @@ module _ {V : Type 0} (bits : Bits) (p : Coord) (cell : Cell V) where
   -- the filled leaf extent after steps that kept every cell
   pub filled_field : (old mid new : Layout V) → Keeps bits old mid → Fills bits Leaf mid new p cell → field_of bits new ≡ fill (block_around bits Leaf p) cell (field_of bits old)
   filled_field old mid new keeps fills = fills_field mid new fills ∙ ap (fill (block_around bits Leaf p) cell) (keeps_field bits old mid keeps)
+
+  -- if p's leaf extent alone gets another entry in the lower nodes, each other block keeps the entry over it
+  pub leaf_elsewhere : (old new : Layout V) → KeepsUppers old new → Turns (block_number bits Leaf) p (lower_entry bits old) (lower_entry bits new) (Tile cell) → KeepsElsewhere bits old new p
+  leaf_elsewhere old new above turns Upper q d = root_entry_same bits old new above.head above.root q
+  leaf_elsewhere old new above turns Lower q d = upper_entry_same bits old new above q
+  leaf_elsewhere old new above turns Leaf q d = turns.there q d

@@ -1,6 +1,7 @@
 //! The tree itself.
 
 ghost use Rattle.std.specs.Prelude.{◌≡◌, ◌<◌, ◌≤◌, ◌↔◌, [], IfSome, IsTrue, IfErr, IfOk};
+ghost use Rattle.std.specs.declared.alloc.Global.{Global as Heap};
 ghost use Rattle.vdb_coord.specs.Blocks.{block_number, block_numbers, key, node_bits, offset};
 ghost use Rattle.vdb_coord.specs.Entries.{AreBits};
 ghost use Rattle.vdb_coord.specs.Space.{is_inside};
@@ -155,8 +156,10 @@ impl<
         self.limit
     }
 
-    /// Returns the allocator of its nodes and its table.
-    pub fn alloc(&self) -> Global {
+    /// Returns the allocator of its nodes and its table. There is no other.
+    pub fn alloc(&self) -> Global
+        ensures { (alloc : Heap) → alloc ≡ result }
+    {
         self.alloc
     }
 

@@ -190,7 +190,7 @@ def add_scene_and_grid(parser: argparse.ArgumentParser) -> None:
 def add_image_and_out(parser: argparse.ArgumentParser, out: str) -> None:
     """Adds the arguments FILE, GRID and OUT, and the options of a gray image."""
     parser.add_argument("file", metavar="FILE", help=f"a scene file or an image ({', '.join(formats.FORMATS)})")
-    parser.add_argument("grid", metavar="GRID", help="the name of a grid, which an image or a scene of one grid needs not")
+    parser.add_argument("grid", metavar="GRID", help="the name of a grid; omit it for an image or a scene of one grid")
     parser.add_argument("out", nargs="?", metavar=out, help="the file to write; - for standard output")
     parser.add_argument("--beneath", metavar="IMAGE", help="a gray image of the same voxels, which is shown beneath the labels")
     parser.add_argument("--window", nargs=2, type=number_word, metavar=("BLACK", "WHITE"), help="the numbers of the gray image that are black and "
@@ -206,7 +206,7 @@ def add_bounds(parser: "argparse._ActionsContainer", what: str, usual: str = "th
 def add_max_bytes(parser: argparse.ArgumentParser) -> None:
     """Adds the option --max-bytes."""
     parser.add_argument("--max-bytes", type=count_word, default=MAX_BYTES, metavar="N",
-                        help=f"refuse arrays of more bytes, values and states together (default {MAX_BYTES:,})")  # fmt: skip
+                        help=f"reject arrays of more bytes, values and states together (default {MAX_BYTES:,})")  # fmt: skip
 
 
 def name_word(word: str) -> str:

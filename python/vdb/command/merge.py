@@ -17,7 +17,7 @@ def add_arguments(parser: argparse.ArgumentParser) -> None:
     parser.add_argument("a", metavar="A", help="a scene file")
     parser.add_argument("b", metavar="B", help="another scene file")
     parser.add_argument("out", metavar="OUT", help="the file for both, which may be A or B")
-    parser.add_argument("--prefer", choices="ab", help="whose grid to keep if both have a name")
+    parser.add_argument("--prefer", choices="ab", help="the file whose grid is kept if both have one of a name")
 
 
 def run(arguments: argparse.Namespace) -> None:

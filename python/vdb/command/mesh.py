@@ -32,7 +32,7 @@ def add_arguments(parser: argparse.ArgumentParser) -> None:
     parser.add_argument("--label", action="append", type=value_word, metavar="V", help="only this label; may be given more than once")
     parser.add_argument("--merge", action="store_true", help="join faces in a plane to larger rectangles: far fewer triangles of the same "
                         "area and volume, but corners lie on the edges of other triangles")  # fmt: skip
-    parser.add_argument("--max-faces", type=count_word, default=MOST_FACES, metavar="N", help="refuse labels of more faces, before they "
+    parser.add_argument("--max-faces", type=count_word, default=MOST_FACES, metavar="N", help="reject labels with more faces, before they "
                         "are joined; with --merge, those of a tile's side are one; a face needs some 300 bytes "
                         f"(default {MOST_FACES:,})")  # fmt: skip
 

@@ -2,7 +2,7 @@
 """Writes a page for the browser with three slices, a list of labels, and the faces of labels.
 
 The page is one file and needs no network. Inactive voxels are shown as background. With more than 256
-labels, the page lists those of the most voxels, and has faces to inactive voxels alone."""
+labels, the page lists the largest ones, and draws only faces next to inactive voxels."""
 from __future__ import annotations
 
 import argparse
@@ -17,10 +17,10 @@ EXAMPLE = "view scene.vdbs organs organs.html\n         vdb-scene view labels.ni
 
 def add_arguments(parser: argparse.ArgumentParser) -> None:
     add_image_and_out(parser, "OUT.html")
-    parser.add_argument("--max-voxels", type=count_word, default=MOST_VOXELS, metavar="N", help="refuse a bounding box of more voxels, "
+    parser.add_argument("--max-voxels", type=count_word, default=MOST_VOXELS, metavar="N", help="reject a bounding box of more voxels, "
                         f"and leaves of more than an eighth as many, which a browser holds (default {MOST_VOXELS:,})")  # fmt: skip
     parser.add_argument("--max-faces", type=count_word, default=MOST_FACES, metavar="N",
-                        help=f"refuse labels of more faces; those of a tile's side are one (default {MOST_FACES:,})")  # fmt: skip
+                        help=f"reject labels with more faces; those of a tile's side are one (default {MOST_FACES:,})")  # fmt: skip
 
 
 def run(arguments: argparse.Namespace) -> None:

@@ -44,6 +44,9 @@ class Volume(NamedTuple):
     states: "np.ndarray | None" = None
     background: "Value | None" = None
 
+    def __repr__(self) -> str:
+        return f"<Volume {self.values.dtype}, shape {self.values.shape}, origin {self.origin}>"
+
 
 def stored(values: np.ndarray) -> np.ndarray:
     """Returns values for a file, whose formats have bytes 0 and 1 in place of booleans, and no floats of 16 bits."""

@@ -7,7 +7,7 @@
     scene["mask"] = scenefile.Grid.from_array(values == 3)
     scene.save("scene.vdbs")
 
-docs/FORMAT.md of the repository defines the files. Names that `vdb` has too mean the same. Coordinates are voxels; array axes are x, y, z.
+docs/FORMAT.md of the repository defines the files. Names shared with `vdb` behave identically. Coordinates are voxels; array axes are x, y, z.
 """
 from ..blocks import Boxes, Labels
 from ..forms import Leaf, Metadata

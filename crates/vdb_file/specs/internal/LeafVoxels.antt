@@ -49,3 +49,8 @@ module _ {V : Type 0} where
 
     abbrev pub voxel_count : Bits → Coord → Field V → ℕ
     voxel_count bits p f = length (listed eq value_bytes bits f Leaf (block_around bits Leaf p))
+
+    -- a field with this many listed voxels in p's leaf extent
+    pub record IsFilled (is_value : V → Type 0) (background : V) (bits : Bits) (p : Coord) (count : ℕ) (f : Field V) : Type 0 where
+      pub values : HasValues is_value background f
+      pub counted : voxel_count bits p f ≡ count

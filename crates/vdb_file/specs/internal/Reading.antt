@@ -1,5 +1,5 @@
 -- The state of a file that is read field by field.
-use Rattle.std.specs.Prelude.{◌≡◌, ℕ, ◌+◌, ◌-◌, ◌≤◌, ◌^◌, min, Bool, ◌||◌, true, List, ◌++◌, length, Option, None, Some, if◌then◌else◌, nat_le, Result, Ok, Err, IfSome}
+use Rattle.std.specs.Prelude.{◌≡◌, ℕ, ◌+◌, ◌-◌, ◌≤◌, ◌^◌, min, Bool, ◌||◌, true, List, ◌++◌, drop, length, Option, None, Some, if◌then◌else◌, nat_le, Result, Ok, Err, IfSome}
 use Rattle.std.specs.Io.KnownBytes.{Consumes, IsAtEnd, prepend_known}
 use Rattle.vdb_file.specs.Faults.{Claims, is_read_fault}
 use Rattle.vdb_file.specs.declared.fault.LoadFault.{LoadFault}
@@ -28,6 +28,10 @@ pub record Reader : Type 0 where
   pub failed : Bool
   pub given : ℕ
   pub empty : ℕ
+
+-- the buffer after n of its unread bytes were read
+abbrev pub passed : ℕ → Stock → Stock
+passed n s = record { unread = drop n s.unread; capacity = s.capacity - n; ended = s.ended }
 
 -- the position before the unread bytes and those of a reader
 abbrev pub ahead : Stock → Reader → Position

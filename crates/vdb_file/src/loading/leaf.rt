@@ -1,13 +1,16 @@
 //! Reads the voxels of a leaf extent.
 
-ghost use Rattle.std.specs.Prelude.{◌≡◌, ℕ, ◌+◌, ◌≤◌, false, Err, IfErr, IfOk, Some, length};
+ghost use Rattle.std.specs.Prelude.{◌≡◌, ℕ, ◌+◌, ◌*◌, ◌≤◌, false, Err, IfErr, IfOk, List, Option, Some, length, take};
 ghost use Rattle.vdb_coord.specs.Blocks.{vdb};
 ghost use Rattle.vdb_coord.specs.declared.Coord.{Coord};
+ghost use Rattle.vdb_node.specs.Leaf.{IsConstantLeaf};
+ghost use Rattle.vdb_node.specs.Nodes.{entry_count};
 ghost use Rattle.vdb_value.specs.Values.{byte_count};
+ghost use Rattle.vdb_tree.specs.Field.{off};
 ghost use Rattle.vdb_file.specs.Faults.{is_read_fault};
 ghost use Rattle.vdb_file.specs.internal.FieldFaults.{IsInner};
-ghost use Rattle.vdb_file.specs.internal.LeafVoxels.{IsMixed, IsVoxel, leaf_field, voxel_bytes, voxel_count, voxels_bytes};
-ghost use Rattle.vdb_file.specs.internal.Reading.{EndsWith, Moves, Reads, ahead};
+ghost use Rattle.vdb_file.specs.internal.LeafVoxels.{IsFilled, IsMixed, IsVoxel, leaf_field, voxel_bytes, voxel_count, voxels_bytes};
+ghost use Rattle.vdb_file.specs.internal.Reading.{EndsWith, Moves, Reads, Stock, ahead, passed, position};
 
 use crate::fault::LoadFault;
 use crate::loading::block_head::{index_follows, take_cell, take_index};
@@ -45,17 +48,93 @@ pub(crate) fn take_listed_voxels<V: Stored<8>, S: Source>(
         Ok(leaf) => leaf,
         Err(_) => return Err(LoadFault::Memory),
     };
+    take_voxels(background, count, &mut leaf, input, reader)?;
+    let _ = leaf.states(); // the proof learns from it that each entry has a value
+    match leaf.constant() {
+        Some(_) => Err(LoadFault::ConstantNode),
+        None => Ok(leaf),
+    }
+}
+
+/// Reads this many voxels into a leaf that holds nothing but the background: in one step if their bytes are unread.
+fn take_voxels<V: Stored<8>, S: Source>(
+    background: V,
+    count: u16,
+    leaf: &mut Leaf<V, 3, 8>,
+    input: &mut Input,
+    reader: &mut S,
+) -> Result<(), LoadFault>
+    requires value { V.is_value background }
+    requires empty { IsConstantLeaf leaf.old (entry_count 3) (off background) }
+    requires ends { EndsWith input.old (S.state reader.old) }
+    ensures moves { Moves input.old (S.state reader.old) input.new (S.state reader.new) result }
+    ensures reads { (p : Coord) → Reads (λ _. leaf_field vdb p background leaf.new) (IsFilled V.eq V.bytes_of V.is_value background vdb p count)
+        (voxels_bytes V.eq V.bytes_of vdb p) result
+        (ahead input.old (S.state reader.old)) (ahead input.new (S.state reader.new)) }
+    ensures inner { IfErr result IsInner }
+{
+    let len = voxels_len::<V>(count);
+    if let Some(bytes) = input.peek(len) {
+        let result = read_voxels(background, count, bytes, leaf);
+        input.skip(len);
+        return result;
+    }
+    take_each_voxel(background, count, leaf, input, reader)
+}
+
+/// Reads this many voxels from their bytes into a leaf that holds nothing but the background.
+fn read_voxels<V: Stored<8>>(
+    background: V,
+    count: u16,
+    bytes: &[u8],
+    leaf: &mut Leaf<V, 3, 8>,
+) -> Result<(), LoadFault>
+    requires value { V.is_value background }
+    requires empty { IsConstantLeaf leaf.old (entry_count 3) (off background) }
+    requires length { length bytes.now ≡ count * (3 + byte_count V.KIND) }
+    ensures reads { (p : Coord) (s : Stock) (known : Option (List ℕ)) → bytes.now ≡ take (length bytes.now) s.unread → length bytes.now ≤ s.capacity
+        → Reads (λ _. leaf_field vdb p background leaf.new) (IsFilled V.eq V.bytes_of V.is_value background vdb p count)
+        (voxels_bytes V.eq V.bytes_of vdb p) result (position s known) (position (passed (length bytes.now) s) known) }
+    ensures inner { IfErr result IsInner }
+    ensures whole { result ≡ Err LoadFault.Truncated → ⊥ }
+    ensures read { is_read_fault result ≡ false }
+{
+    let size = voxels_len::<V>(1);
+    let mut before = None;
+    let mut at = 0;
+    for _ in 0..count {
+        let voxel = voxel_of(VOXELS, before, background, &bytes[at..at + size])?;
+        leaf.set(u32::from(voxel.0), voxel.1);
+        before = Some(voxel.0);
+        at += size;
+    }
+    Ok(())
+}
+
+/// Reads this many voxels, one after another, into a leaf that holds nothing but the background.
+fn take_each_voxel<V: Stored<8>, S: Source>(
+    background: V,
+    count: u16,
+    leaf: &mut Leaf<V, 3, 8>,
+    input: &mut Input,
+    reader: &mut S,
+) -> Result<(), LoadFault>
+    requires value { V.is_value background }
+    requires empty { IsConstantLeaf leaf.old (entry_count 3) (off background) }
+    requires ends { EndsWith input.old (S.state reader.old) }
+    ensures moves { Moves input.old (S.state reader.old) input.new (S.state reader.new) result }
+    ensures reads { (p : Coord) → Reads (λ _. leaf_field vdb p background leaf.new) (IsFilled V.eq V.bytes_of V.is_value background vdb p count)
+        (voxels_bytes V.eq V.bytes_of vdb p) result
+        (ahead input.old (S.state reader.old)) (ahead input.new (S.state reader.new)) }
+    ensures inner { IfErr result IsInner }
+{
     let mut before = None;
     for _ in 0..count {
         let voxel = take_voxel(VOXELS, before, background, input, reader)?;
         leaf.set(u32::from(voxel.0), voxel.1);
         before = Some(voxel.0);
     }
-    let _ = leaf.states(); // the proof learns from it that each entry has a value
-    match leaf.constant() {
-        Some(_) => Err(LoadFault::ConstantNode),
-        None => Ok(leaf),
-    }
+    Ok(())
 }
 
 /// Reads the number of a voxel, which must be greater than the one before, and then its cell, which must not be the background.
@@ -72,7 +151,7 @@ fn take_voxel<V: Voxel, S: Source>(
         (ahead input.old (S.state reader.old)) (ahead input.new (S.state reader.new)) }
     ensures inner { IfErr result IsInner }
 {
-    let count = voxel_len::<V>();
+    let count = voxels_len::<V>(1);
     if let Some(bytes) = input.peek(count) {
         let voxel = voxel_of(most, before, background, bytes);
         input.skip(count);
@@ -83,14 +162,15 @@ fn take_voxel<V: Voxel, S: Source>(
     Ok((i, cell))
 }
 
-/// Returns how many bytes a voxel has.
-fn voxel_len<V: Voxel>() -> usize
-    ensures { result ≡ 3 + byte_count V.KIND }
+/// Returns how many bytes this many voxels have.
+fn voxels_len<V: Voxel>(count: u16) -> usize
+    ensures { result ≡ count * (3 + byte_count V.KIND) }
 {
+    let count = usize::from(count);
     match V::KIND {
-        Kind::Bool => 4,
-        Kind::I32 => 7,
-        Kind::I64 => 11,
+        Kind::Bool => count * 4,
+        Kind::I32 => count * 7,
+        Kind::I64 => count * 11,
     }
 }
 

@@ -28,6 +28,9 @@ use vdb_value::{Cell, Voxel};
 /// The byte before the entries of a block whose cells differ.
 const NODE: u8 = 3;
 
+/// The bytes of a head of a block whose cells differ: its tag, and two for the count of its entries.
+const HEAD: usize = 3;
+
 /// The most bytes of a voxel: two for its number, one for its state and up to eight for its value.
 const VOXEL: usize = 11;
 
@@ -72,7 +75,7 @@ pub(crate) fn put_value<V: Voxel, W: Write, const C: u32>(
 }
 
 /// Writes the head of a block whose cells differ, before its entries: its tag, and the count of its entries.
-pub(crate) fn put_head<W: Write, const C: u32>(
+fn put_head<W: Write, const C: u32>(
     out: &mut Output<C>,
     writer: &mut Watched<W>,
     count: u16,
@@ -84,6 +87,31 @@ pub(crate) fn put_head<W: Write, const C: u32>(
 {
     out.put(writer, [NODE].as_slice())?;
     out.put(writer, count.to_be_bytes().as_slice())
+}
+
+/// Writes the head of the level's block around a coordinate, whose cells differ. An output that only counts needs no count of the
+/// entries.
+pub(crate) fn put_node_head<V: GridValue, W: Write, const C: u32>(
+    out: &mut Output<C>,
+    writer: &mut Watched<W>,
+    tree: &Tree<V>,
+    level: Level,
+    below: Level,
+    p: Coord,
+    steps: &mut Steps,
+) -> Result<(), SaveFault>
+    requires { IsNextAbove level below }
+    ensures counts { C ≡ 1 → IsOk result }
+    ensures puts { OnOk result (Puts (sent C out.old (W.contents (source writer.old))) (sent C out.new (W.contents (source writer.new)))
+        (3 ∷ to_be_bytes w16 (length (listed V.eq V.bytes_of vdb (field_of vdb tree.now) level (block_around vdb level p))))) }
+    ensures failed { has_failed writer.new ≡ (has_failed writer.old || is_err result) }
+{
+    if C == COUNTING {
+        out.count(HEAD);
+        return Ok(());
+    }
+    let count = count_listed(tree, level, below, p, steps);
+    put_head(out, writer, count)
 }
 
 /// Returns the first entry, from this one on, that holds anything but the background, of the block around a coordinate.
@@ -116,7 +144,7 @@ pub(crate) fn next_listed<V: GridValue>(
 }
 
 /// Returns how many entries of the block around a coordinate hold anything but the background.
-pub(crate) fn count_listed<V: GridValue>(
+fn count_listed<V: GridValue>(
     tree: &Tree<V>,
     level: Level,
     below: Level,
@@ -153,7 +181,7 @@ fn put_voxel<V: Voxel>(bytes: &mut [u8], i: u16, cell: Cell<V>) -> usize
 }
 
 /// Encodes those of the first voxels of a leaf that aren't the background, each after its number. Returns how many bytes and how
-/// many voxels these are. It writes each voxel behind the last one that is kept, so that no branch depends on the cells.
+/// many voxels these are.
 #[inline(always)]
 fn encode_voxels<V: Stored<8>>(
     leaf: &Leaf<V, 3, 8>,
@@ -172,36 +200,31 @@ fn encode_voxels<V: Stored<8>>(
     let mut count = 0;
     for i in 0..n {
         let cell = leaf.entry(i);
-        let size = put_voxel(&mut bytes[len..len + VOXEL], i as u16, cell);
         if cell != background {
-            len += size;
+            len += put_voxel(&mut bytes[len..len + VOXEL], i as u16, cell);
             count += 1;
         }
     }
     (len, count)
 }
 
-/// Returns how many bytes `encode_voxels` encodes, and how many voxels, without encoding them.
-fn measure_voxels<V: Stored<8>>(leaf: &Leaf<V, 3, 8>, background: Cell<V>, n: u32) -> (usize, u16)
+/// Returns how many bytes `encode_voxels` encodes, without encoding them.
+fn measure_voxels<V: Stored<8>>(leaf: &Leaf<V, 3, 8>, background: Cell<V>, n: u32) -> usize
     requires within { n ≤ entry_count 3 }
     requires few { n ≤ 512 }
-    ensures few { result.0 ≤ VOXEL * n }
-    ensures count { (d : Cell V) → result.1 ≡ length (passing (λ i. not (cell_eq V.eq (cell_in d leaf.now i) background)) n) }
-    ensures bytes { (d : Cell V) → result.0
+    ensures { (d : Cell V) → result
         ≡ length (numbered (λ i. cell_bytes V.eq V.bytes_of (cell_in d leaf.now i)) (passing (λ i. not (cell_eq V.eq (cell_in d leaf.now i) background)) n)) }
 {
     let mut len = 0;
-    let mut count = 0;
     for i in 0..n {
         let cell = leaf.entry(i);
         let mut value = [0; 8];
         let size = cell.value.to_bytes(&mut value);
         if cell != background {
             len += 3 + size;
-            count += 1;
         }
     }
-    (len, count)
+    len
 }
 
 /// Returns the cell of the leaf extent around a coordinate if all its voxels have that cell.
@@ -237,8 +260,8 @@ fn put_leaf_cells<V: GridValue, W: Write, const C: u32>(
     };
     let n = u32::from(Bits::VDB.entries(Level::Leaf));
     if C == COUNTING {
-        let (len, count) = measure_voxels(leaf, background, n);
-        put_head(out, writer, count)?;
+        let len = measure_voxels(leaf, background, n);
+        out.count(HEAD);
         out.count(len);
         return Ok(());
     }

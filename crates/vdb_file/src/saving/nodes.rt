@@ -14,7 +14,7 @@ ghost use Rattle.vdb_file.specs.internal.Levels.{inner_body, level_body};
 ghost use Rattle.vdb_file.specs.internal.Written.{Puts, numbered, sent};
 
 use crate::fault::SaveFault;
-use crate::saving::leaves::{count_listed, next_listed, put_cell, put_head, put_leaf};
+use crate::saving::leaves::{next_listed, put_cell, put_leaf, put_node_head};
 use crate::saving::output::Output;
 use std::io::Write;
 use vdb_coord::{Bits, Coord, Level};
@@ -65,8 +65,7 @@ fn put_node<V: GridValue, W: Write, const C: u32>(
     if let Some(cell) = tree.constant(level, p, steps) {
         return put_cell(out, writer, cell);
     }
-    let count = count_listed(tree, level, below, p, steps);
-    put_head(out, writer, count)?;
+    put_node_head(out, writer, tree, level, below, p, steps)?;
     put_entries(out, writer, tree, level, below, p, steps)
 }
 

@@ -31,6 +31,6 @@ module _ {V : Type 0} (bits : Bits) (f : Field V) (level : Level) (p : Coord) wh
   abbrev pub IsInactive : Type 0
   IsInactive = (q : Coord) → block_number bits level q ≡ block_number bits level p → (f.cell q).on ≡ false
 
-  -- no voxel of p's block of the level is active at the entry of this index
-  abbrev pub IsInactiveAt : ℕ → Type 0
-  IsInactiveAt index = (q : Coord) → block_number bits level q ≡ block_number bits level p → offset bits level q ≡ index → (f.cell q).on ≡ false
+-- a count that may stop at a number: if it is less than that, it is all, and else all or fewer
+abbrev pub IsCountTo : ℕ → ℕ → ℕ → Type 0
+IsCountTo enough all counted = (counted ≤ all) × (counted < enough → counted ≡ all)

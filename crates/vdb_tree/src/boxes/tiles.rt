@@ -1,7 +1,7 @@
 //! Tiles in place of nodes and of other tiles. A node goes back to its pool once its block has only tiles, so the tree is sound
 //! after each step.
 
-ghost use Rattle.std.specs.Prelude.{◌≡◌, ◌<◌, ◌≤◌, ℕ, IfSome, IsSome, Some, if◌then◌else◌};
+ghost use Rattle.std.specs.Prelude.{◌≡◌, ◌+◌, ◌<◌, ◌≤◌, ℕ, IfSome, IsSome, Some, if◌then◌else◌};
 ghost use Rattle.vdb_coord.specs.Blocks.{block_number, key};
 ghost use Rattle.vdb_coord.specs.Space.{coord_eq};
 ghost use Rattle.vdb_coord.specs.declared.Coord.{Coord};
@@ -42,6 +42,7 @@ impl<
         ensures fills { Fills (bits_of U L F) Leaf self.old self.new p cell }
         ensures above { KeepsUppers self.old self.new }
         ensures entries { Turns (block_number (bits_of U L F) Leaf) p (lower_entry (bits_of U L F) self.old) (lower_entry (bits_of U L F) self.new) (Tile cell) }
+        ensures steps { steps.new ≤ steps.old + 2 }
     {
         let offset = self.offset(p, Level::Lower);
         self.swept = false;
@@ -57,6 +58,7 @@ impl<
         ensures fills { Fills (bits_of U L F) Leaf self.old self.new p cell }
         ensures above { KeepsUppers self.old self.new }
         ensures entries { Turns (block_number (bits_of U L F) Leaf) p (lower_entry (bits_of U L F) self.old) (lower_entry (bits_of U L F) self.new) (Tile cell) }
+        ensures steps { steps.new ≤ steps.old + 3 }
     {
         match self.lower_entry(lower, p, steps) {
             Entry::Child(leaf) => self.drop_leaf(lower, leaf, p, cell, steps),
@@ -71,6 +73,7 @@ impl<
         ensures fills { Fills (bits_of U L F) Leaf self.old self.new p cell }
         ensures above { KeepsUppers self.old self.new }
         ensures entries { Turns (block_number (bits_of U L F) Leaf) p (lower_entry (bits_of U L F) self.old) (lower_entry (bits_of U L F) self.new) (Tile cell) }
+        ensures steps { steps.new ≤ steps.old + 1 }
     {
         let offset = self.offset(p, Level::Lower);
         self.swept = false;

@@ -4,6 +4,8 @@ ghost use Rattle.std.specs.Prelude.{◌≡◌, ◌≢◌, ◌+◌, ◌≤◌, Er
 ghost use Rattle.vdb_coord.specs.Blocks.{block_around, key};
 ghost use Rattle.vdb_coord.specs.declared.Coord.{Coord};
 ghost use Rattle.vdb_coord.specs.declared.Level.TheVariants.{Leaf as leaf_level};
+ghost use Rattle.vdb_node.specs.Leaf.{IsConstantLeaf};
+ghost use Rattle.vdb_node.specs.Nodes.{entry_count};
 ghost use Rattle.vdb_node.specs.declared.Entry.TheVariants.{Child, Tile};
 ghost use Rattle.vdb_tree.specs.Table.{HasCapacity};
 ghost use Rattle.vdb_tree.specs.Changes.{Keeps, SameDescent};
@@ -38,7 +40,8 @@ impl<
     ///
     /// `RootLimit`: there would be more upper extents with a cell other than the inactive background than the limit. `Memory`:
     /// an allocation failed. Both errors leave every cell as it was. Neither error occurs if the leaf extent already has a
-    /// leaf.
+    /// leaf. Unless it sweeps, this visits at most 7 nodes, and each block that doesn't hold the coordinate keeps the entry
+    /// over it.
     pub fn write_leaf(
         &mut self,
         p: Coord,
@@ -49,6 +52,9 @@ impl<
             (with_leaf (bits_of U L F) p leaf.now (field_of (bits_of U L F) self.old)) (field_of (bits_of U L F) self.new) result }
         ensures limit { self.new.limit ≡ self.old.limit }
         ensures there { IsTrue (in_leaf (bits_of U L F) self.old p) → IsOk result }
+        ensures elsewhere { HasCapacity self.old (key (bits_of U L F) p) → KeepsElsewhere (bits_of U L F) self.old self.new p }
+        ensures tile { OnOk result ((cell : Cell V) → IsConstantLeaf leaf.now (entry_count F) cell → lower_entry (bits_of U L F) self.new p ≡ Tile cell) }
+        ensures steps { HasCapacity self.old (key (bits_of U L F) p) → steps.new ≤ steps.old + 7 }
     {
         if let Some(cell) = leaf.constant() {
             return self.fill_leaf_block(p, cell, steps);
@@ -73,6 +79,8 @@ impl<
         ensures memory { IfErr result (λ refusal. refusal ≡ Memory) }
         ensures limit { self.new.limit ≡ self.old.limit }
         ensures there { IsTrue (in_leaf (bits_of U L F) self.old p) → IsOk result }
+        ensures elsewhere { KeepsElsewhere (bits_of U L F) self.old self.new p }
+        ensures steps { steps.new ≤ steps.old + 4 }
     {
         let upper = self.upper_around(p)?;
         let lower = self.lower_in(upper, p, steps)?;
@@ -161,6 +169,8 @@ impl<
         ensures kept { IsErr result → Keeps (bits_of U L F) self.old self.new }
         ensures memory { IfErr result (λ refusal. refusal ≡ Memory) }
         ensures limit { self.new.limit ≡ self.old.limit }
+        ensures elsewhere { KeepsElsewhere (bits_of U L F) self.old self.new p }
+        ensures steps { steps.new ≤ steps.old + 1 }
     {
         let offset = self.offset(p, Level::Lower);
         let node = leaf.try_copy(self.alloc)?;
@@ -182,6 +192,9 @@ impl<
             (fill (block_around (bits_of U L F) leaf_level p) cell (field_of (bits_of U L F) self.old)) (field_of (bits_of U L F) self.new) result }
         ensures limit { self.new.limit ≡ self.old.limit }
         ensures there { IsTrue (in_leaf (bits_of U L F) self.old p) → IsOk result }
+        ensures elsewhere { HasCapacity self.old (key (bits_of U L F) p) → KeepsElsewhere (bits_of U L F) self.old self.new p }
+        ensures tile { OnOk result (lower_entry (bits_of U L F) self.new p ≡ Tile cell) }
+        ensures steps { HasCapacity self.old (key (bits_of U L F) p) → steps.new ≤ steps.old + 7 }
     {
         if let Entry::Tile(tile) = self.leaf_entry(p, steps) {
             if tile == cell {
@@ -200,6 +213,7 @@ impl<
     fn copy_leaf(&mut self, slot: u32, p: Coord, leaf: &Leaf<V, F, WF>, steps: &mut Steps)
         requires { lower_entry (bits_of U L F) self.old p ≡ Child slot }
         ensures field { field_of (bits_of U L F) self.new ≡ with_leaf (bits_of U L F) p leaf.now (field_of (bits_of U L F) self.old) }
+        ensures same { (q : Coord) → SameDescent (bits_of U L F) self.old self.new q }
         ensures limit { self.new.limit ≡ self.old.limit }
         ensures steps { steps.new ≤ steps.old + 1 }
     {

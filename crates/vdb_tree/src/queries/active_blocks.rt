@@ -4,7 +4,7 @@ ghost use Rattle.std.specs.Prelude.{◌≡◌, ◌<◌, ◌≤◌, ◌^◌, fals
 ghost use Rattle.vdb_coord.specs.Blocks.{block_around, entries, sub_block};
 ghost use Rattle.vdb_coord.specs.declared.Level.TheVariants.{Leaf as leaf_level, Lower, Upper};
 ghost use Rattle.vdb_node.specs.declared.Entry.TheVariants.{Child, Tile};
-ghost use Rattle.vdb_tree.specs.internal.Active.{IsNextActive, HasActive, IsInactive, IsInactiveAt};
+ghost use Rattle.vdb_tree.specs.internal.Active.{IsCountTo, IsNextActive, HasActive, IsInactive};
 ghost use Rattle.vdb_tree.specs.Layout.{bits_of, entry_over, field_of, lower_entry, root_entry, upper_entry};
 ghost use Rattle.vdb_tree.specs.ConstantBlocks.{count as active_count};
 ghost use Rattle.vdb_coord.specs.declared.Level.{Level};
@@ -33,8 +33,11 @@ impl<
         ensures bound { result ≤ 2 ^ 96 }
     {
         match level {
-            Level::Upper => self.active_in_upper(self.root_entry(p), p, steps),
-            Level::Lower => self.active_in_lower(self.lower_block_entry(p, steps), p, steps),
+            Level::Upper => self.active_in_upper(self.root_entry(p), p, u128::MAX, steps),
+            Level::Lower => {
+                let entry = self.lower_block_entry(p, steps);
+                self.active_in_lower(entry, p, u128::MAX, steps)
+            }
             Level::Leaf => self.active_in_leaf(self.leaf_entry(p, steps), p, steps),
         }
     }
@@ -75,41 +78,46 @@ impl<
         }
     }
 
-    /// Returns how many voxels of the lower extent around p, which has this entry, are active.
-    fn active_in_lower(&self, entry: Entry<V>, p: Coord, steps: &mut Steps) -> u128
+    /// Returns how many voxels of the lower extent around p, which has this entry, are active. It may stop at `enough` of them.
+    fn active_in_lower(&self, entry: Entry<V>, p: Coord, enough: u128, steps: &mut Steps) -> u128
         requires { upper_entry (bits_of U L F) self.now p ≡ entry }
-        ensures value { result ≡ active_count (field_of (bits_of U L F) self.now) (block_around (bits_of U L F) Lower p) }
+        ensures value { IsCountTo enough (active_count (field_of (bits_of U L F) self.now) (block_around (bits_of U L F) Lower p)) result }
         ensures bound { result ≤ 2 ^ 96 }
     {
         match entry {
             Entry::Tile(cell) => self.active_in_tile(Level::Lower, p, cell),
-            Entry::Child(lower) => self.active_in_lower_node(lower, p, steps),
+            Entry::Child(lower) => self.active_in_lower_node(lower, p, enough, steps),
         }
     }
 
-    /// Returns how many voxels of the upper extent around p, which has this entry, are active.
-    fn active_in_upper(&self, entry: Entry<V>, p: Coord, steps: &mut Steps) -> u128
+    /// Returns how many voxels of the upper extent around p, which has this entry, are active. It may stop at `enough` of them.
+    fn active_in_upper(&self, entry: Entry<V>, p: Coord, enough: u128, steps: &mut Steps) -> u128
         requires { root_entry (bits_of U L F) self.now p ≡ entry }
-        ensures value { result ≡ active_count (field_of (bits_of U L F) self.now) (block_around (bits_of U L F) Upper p) }
+        ensures value { IsCountTo enough (active_count (field_of (bits_of U L F) self.now) (block_around (bits_of U L F) Upper p)) result }
         ensures bound { result ≤ 2 ^ 96 }
     {
         match entry {
             Entry::Tile(cell) => self.active_in_tile(Level::Upper, p, cell),
-            Entry::Child(upper) => self.active_in_upper_node(upper, p, steps),
+            Entry::Child(upper) => self.active_in_upper_node(upper, p, enough, steps),
         }
     }
 
-    /// Returns how many voxels of the lower node around p are active.
-    fn active_in_lower_node(&self, lower: u32, p: Coord, steps: &mut Steps) -> u128
+    /// Returns how many voxels of the lower node around p are active. It may stop at `enough` of them.
+    fn active_in_lower_node(&self, lower: u32, p: Coord, enough: u128, steps: &mut Steps) -> u128
         requires { upper_entry (bits_of U L F) self.now p ≡ Child lower }
-        ensures value { result ≡ active_count (field_of (bits_of U L F) self.now) (block_around (bits_of U L F) Lower p) }
+        ensures value { IsCountTo enough (active_count (field_of (bits_of U L F) self.now) (block_around (bits_of U L F) Lower p)) result }
         ensures bound { result ≤ 2 ^ 96 }
     {
         let _ = &self.root;
         let mut total = 0;
         let mut from = 0;
-        'entries: while let Some(index) = self.next_active_leaf(lower, p, from, steps) {
-            total += self.active_in_leaf_at(lower, p, index, steps);
+        'entries: while total < enough {
+            let Some(index) = self.next_active_leaf(lower, p, from, steps) else {
+                return total;
+            };
+            let corner = self.leaf_corner(lower, p, index);
+            let entry = self.lower_entry(lower, corner, steps);
+            total += self.active_in_leaf(entry, corner, steps);
             from = index + 1;
         }
         total
@@ -132,28 +140,22 @@ impl<
         self.lowers.at(place, steps).next_active(from)
     }
 
-    /// Returns how many voxels of this entry of the lower node around p are active.
-    fn active_in_leaf_at(&self, lower: u32, p: Coord, index: u32, steps: &mut Steps) -> u128
-        requires child { upper_entry (bits_of U L F) self.now p ≡ Child lower }
-        requires within { index < entries (bits_of U L F) Lower }
-        ensures { result ≡ active_count (field_of (bits_of U L F) self.now) (sub_block (bits_of U L F) Lower (block_around (bits_of U L F) Lower p) index) }
-    {
-        let corner = self.leaf_corner(lower, p, index);
-        let entry = self.lower_entry(lower, corner, steps);
-        self.active_in_leaf(entry, corner, steps)
-    }
-
-    /// Returns how many voxels of the upper node around p are active.
-    fn active_in_upper_node(&self, upper: u32, p: Coord, steps: &mut Steps) -> u128
+    /// Returns how many voxels of the upper node around p are active. It may stop at `enough` of them.
+    fn active_in_upper_node(&self, upper: u32, p: Coord, enough: u128, steps: &mut Steps) -> u128
         requires { root_entry (bits_of U L F) self.now p ≡ Child upper }
-        ensures value { result ≡ active_count (field_of (bits_of U L F) self.now) (block_around (bits_of U L F) Upper p) }
+        ensures value { IsCountTo enough (active_count (field_of (bits_of U L F) self.now) (block_around (bits_of U L F) Upper p)) result }
         ensures bound { result ≤ 2 ^ 96 }
     {
         let _ = &self.root;
         let mut total = 0;
         let mut from = 0;
-        'entries: while let Some(index) = self.next_active_lower(upper, p, from, steps) {
-            total += self.active_in_lower_at(upper, p, index, steps);
+        'entries: while total < enough {
+            let Some(index) = self.next_active_lower(upper, p, from, steps) else {
+                return total;
+            };
+            let corner = self.lower_corner(upper, p, index);
+            let entry = self.upper_entry(upper, corner, steps);
+            total += self.active_in_lower(entry, corner, enough, steps);
             from = index + 1;
         }
         total
@@ -176,129 +178,12 @@ impl<
         self.uppers.at(place, steps).next_active(from)
     }
 
-    /// Returns how many voxels of this entry of the upper node around p are active.
-    fn active_in_lower_at(&self, upper: u32, p: Coord, index: u32, steps: &mut Steps) -> u128
-        requires child { root_entry (bits_of U L F) self.now p ≡ Child upper }
-        requires within { index < entries (bits_of U L F) Upper }
-        ensures { result ≡ active_count (field_of (bits_of U L F) self.now) (sub_block (bits_of U L F) Upper (block_around (bits_of U L F) Upper p) index) }
-    {
-        let corner = self.lower_corner(upper, p, index);
-        let entry = self.upper_entry(upper, corner, steps);
-        self.active_in_lower(entry, corner, steps)
-    }
-
     /// Returns whether a voxel of the upper extent around a coordinate is active. It takes no memory, and ends at the first
     /// active tile or leaf with an active voxel.
     pub(crate) fn has_active(&self, p: Coord, steps: &mut Steps) -> bool
         ensures found { IsTrue result → HasActive (bits_of U L F) (field_of (bits_of U L F) self.now) Upper p }
         ensures none { result ≡ false → IsInactive (bits_of U L F) (field_of (bits_of U L F) self.now) Upper p }
     {
-        match self.root_entry(p) {
-            Entry::Tile(cell) => self.has_active_tile(Level::Upper, p, cell),
-            Entry::Child(upper) => self.has_active_in_upper(upper, p, steps),
-        }
-    }
-
-    /// Returns whether a voxel of the level's block around p, which is part of this tile, is active.
-    fn has_active_tile(&self, level: Level, p: Coord, cell: Cell<V>) -> bool
-        requires { entry_over (bits_of U L F) level self.now p ≡ Tile cell }
-        ensures found { IsTrue result → HasActive (bits_of U L F) (field_of (bits_of U L F) self.now) level p }
-        ensures none { result ≡ false → IsInactive (bits_of U L F) (field_of (bits_of U L F) self.now) level p }
-    {
-        let _ = &self.root;
-        let _ = level;
-        let _ = p;
-        cell.on
-    }
-
-    /// Returns whether a voxel of the upper node around p is active.
-    fn has_active_in_upper(&self, upper: u32, p: Coord, steps: &mut Steps) -> bool
-        requires { root_entry (bits_of U L F) self.now p ≡ Child upper }
-        ensures found { IsTrue result → HasActive (bits_of U L F) (field_of (bits_of U L F) self.now) Upper p }
-        ensures none { result ≡ false → IsInactive (bits_of U L F) (field_of (bits_of U L F) self.now) Upper p }
-    {
-        let _ = &self.root;
-        let mut from = 0;
-        'entries: while let Some(index) = self.next_active_lower(upper, p, from, steps) {
-            if self.has_active_lower_at(upper, p, index, steps) {
-                return true;
-            }
-            from = index + 1;
-        }
-        false
-    }
-
-    /// Returns whether a voxel of this entry of the upper node around p is active.
-    fn has_active_lower_at(&self, upper: u32, p: Coord, index: u32, steps: &mut Steps) -> bool
-        requires child { root_entry (bits_of U L F) self.now p ≡ Child upper }
-        requires within { index < entries (bits_of U L F) Upper }
-        ensures found { IsTrue result → HasActive (bits_of U L F) (field_of (bits_of U L F) self.now) Upper p }
-        ensures none { result ≡ false → IsInactiveAt (bits_of U L F) (field_of (bits_of U L F) self.now) Upper p index }
-    {
-        let corner = self.lower_corner(upper, p, index);
-        let entry = self.upper_entry(upper, corner, steps);
-        self.has_active_lower(entry, corner, steps)
-    }
-
-    /// Returns whether a voxel of the lower extent around p, which has this entry, is active.
-    fn has_active_lower(&self, entry: Entry<V>, p: Coord, steps: &mut Steps) -> bool
-        requires { upper_entry (bits_of U L F) self.now p ≡ entry }
-        ensures found { IsTrue result → HasActive (bits_of U L F) (field_of (bits_of U L F) self.now) Lower p }
-        ensures none { result ≡ false → IsInactive (bits_of U L F) (field_of (bits_of U L F) self.now) Lower p }
-    {
-        match entry {
-            Entry::Tile(cell) => self.has_active_tile(Level::Lower, p, cell),
-            Entry::Child(lower) => self.has_active_in_lower(lower, p, steps),
-        }
-    }
-
-    /// Returns whether a voxel of the lower node around p is active.
-    fn has_active_in_lower(&self, lower: u32, p: Coord, steps: &mut Steps) -> bool
-        requires { upper_entry (bits_of U L F) self.now p ≡ Child lower }
-        ensures found { IsTrue result → HasActive (bits_of U L F) (field_of (bits_of U L F) self.now) Lower p }
-        ensures none { result ≡ false → IsInactive (bits_of U L F) (field_of (bits_of U L F) self.now) Lower p }
-    {
-        let _ = &self.root;
-        let mut from = 0;
-        'entries: while let Some(index) = self.next_active_leaf(lower, p, from, steps) {
-            if self.has_active_leaf_at(lower, p, index, steps) {
-                return true;
-            }
-            from = index + 1;
-        }
-        false
-    }
-
-    /// Returns whether a voxel of this entry of the lower node around p is active.
-    fn has_active_leaf_at(&self, lower: u32, p: Coord, index: u32, steps: &mut Steps) -> bool
-        requires child { upper_entry (bits_of U L F) self.now p ≡ Child lower }
-        requires within { index < entries (bits_of U L F) Lower }
-        ensures found { IsTrue result → HasActive (bits_of U L F) (field_of (bits_of U L F) self.now) Lower p }
-        ensures none { result ≡ false → IsInactiveAt (bits_of U L F) (field_of (bits_of U L F) self.now) Lower p index }
-    {
-        let corner = self.leaf_corner(lower, p, index);
-        let entry = self.lower_entry(lower, corner, steps);
-        self.has_active_leaf(entry, corner, steps)
-    }
-
-    /// Returns whether a voxel of the leaf extent around p, which has this entry, is active.
-    fn has_active_leaf(&self, entry: Entry<V>, p: Coord, steps: &mut Steps) -> bool
-        requires { lower_entry (bits_of U L F) self.now p ≡ entry }
-        ensures found { IsTrue result → HasActive (bits_of U L F) (field_of (bits_of U L F) self.now) leaf_level p }
-        ensures none { result ≡ false → IsInactive (bits_of U L F) (field_of (bits_of U L F) self.now) leaf_level p }
-    {
-        match entry {
-            Entry::Tile(cell) => self.has_active_tile(Level::Leaf, p, cell),
-            Entry::Child(leaf) => self.has_active_in_leaf(leaf, p, steps),
-        }
-    }
-
-    /// Returns whether a voxel of the leaf around p is active.
-    fn has_active_in_leaf(&self, leaf: u32, p: Coord, steps: &mut Steps) -> bool
-        requires { lower_entry (bits_of U L F) self.now p ≡ Child leaf }
-        ensures found { IsTrue result → HasActive (bits_of U L F) (field_of (bits_of U L F) self.now) leaf_level p }
-        ensures none { result ≡ false → IsInactive (bits_of U L F) (field_of (bits_of U L F) self.now) leaf_level p }
-    {
-        self.held_count(leaf, p, steps) != 0
+        self.active_in_upper(self.root_entry(p), p, 1, steps) != 0
     }
 }

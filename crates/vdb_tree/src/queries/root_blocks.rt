@@ -4,7 +4,7 @@ ghost use Rattle.std.specs.Prelude.{◌≡◌, ◌<◌, ◌≤◌, ◌↔◌, Is
 ghost use Rattle.vdb_coord.specs.Blocks.{block_number, entries, offset};
 ghost use Rattle.vdb_coord.specs.declared.Level.TheVariants.{Leaf, Lower, Upper};
 ghost use Rattle.vdb_node.specs.declared.Entry.TheVariants.{Child};
-ghost use Rattle.vdb_tree.specs.Changes.{IsConstantAt, IsConstantBlock};
+ghost use Rattle.vdb_tree.specs.Changes.{IsConstantBlock};
 ghost use Rattle.vdb_tree.specs.Layout.{bits_of, cell_at, field_of, lower_entry, root_entry, upper_entry};
 ghost use Rattle.vdb_tree.specs.ConstantBlocks.{roots};
 ghost use Rattle.vdb_tree.specs.Unlike.{IsNextUnlike};
@@ -64,7 +64,8 @@ impl<
         let _ = &self.root;
         let mut from = 0;
         while let Some(index) = self.next_unlike_lower(upper, p, cell, from, steps) {
-            if !self.lower_entry_is(upper, p, index, cell, steps) {
+            let corner = self.lower_corner(upper, p, index);
+            if !self.lower_block_is(upper, corner, cell, steps) {
                 return false;
             }
             from = index + 1;
@@ -101,23 +102,6 @@ impl<
         entry_corner(p, self.bits(), Level::Upper, index)
     }
 
-    /// Returns whether each voxel of this entry of the upper node around p is this cell.
-    fn lower_entry_is(
-        &self,
-        upper: u32,
-        p: Coord,
-        index: u32,
-        cell: Cell<V>,
-        steps: &mut Steps,
-    ) -> bool
-        requires child { root_entry (bits_of U L F) self.now p ≡ Child upper }
-        requires within { index < entries (bits_of U L F) Upper }
-        ensures { IsTrue result ↔ IsConstantAt (bits_of U L F) Upper self.now p index cell }
-    {
-        let corner = self.lower_corner(upper, p, index);
-        self.lower_block_is(upper, corner, cell, steps)
-    }
-
     /// Returns whether each voxel of the lower extent around p, in an upper node, is this cell.
     pub(crate) fn lower_block_is(
         &self,
@@ -143,7 +127,8 @@ impl<
         let _ = &self.root;
         let mut from = 0;
         while let Some(index) = self.next_unlike_leaf(lower, p, cell, from, steps) {
-            if !self.leaf_entry_is(lower, p, index, cell, steps) {
+            let corner = self.leaf_corner(lower, p, index);
+            if !self.leaf_block_is(lower, corner, cell, steps) {
                 return false;
             }
             from = index + 1;
@@ -178,23 +163,6 @@ impl<
         ensures inside { upper_entry (bits_of U L F) self.now result ≡ Child lower }
     {
         entry_corner(p, self.bits(), Level::Lower, index)
-    }
-
-    /// Returns whether each voxel of this entry of the lower node around p is this cell.
-    fn leaf_entry_is(
-        &self,
-        lower: u32,
-        p: Coord,
-        index: u32,
-        cell: Cell<V>,
-        steps: &mut Steps,
-    ) -> bool
-        requires child { upper_entry (bits_of U L F) self.now p ≡ Child lower }
-        requires within { index < entries (bits_of U L F) Lower }
-        ensures { IsTrue result ↔ IsConstantAt (bits_of U L F) Lower self.now p index cell }
-    {
-        let corner = self.leaf_corner(lower, p, index);
-        self.leaf_block_is(lower, corner, cell, steps)
     }
 
     /// Returns whether each voxel of the leaf extent around p, in a lower node, is this cell.

@@ -7,10 +7,10 @@ use Rattle.vdb_file.proofs.loading.leaf.take_voxel.Goals as goal
 pub returns-in-Some-clause-reads : goal.returns-in-Some-clause-reads
 returns-in-Some-clause-reads g c =
     let reader = g.S.Source.state c.args.reader.now in
-    let count = c.voxel_len-count.result in
+    let count = c.voxels_len-count.result in
     let same = c.in-Some.ensures.bytes in
     let within = c.in-Some.ensures.within in
-    let width = c.voxel_len-count.ensures in
+    let width = c.voxels_len-count.ensures in
     let long : length c.in-Some.bytes.now ≡ 3 + byte_count g.V.Voxel.KIND = omega (arith, ap length same, length-take count c.args.input.now.unread, within, width) in
     voxel_answer g.V.PartialEq.eq g.V.Voxel.bytes_of g.V.Voxel.is_value g.V.Voxel.KIND g.met.V.Voxel.bytes_known c.args.background c.args.most c.args.before (ahead c.args.input.now reader) (ahead c.skip.new.self reader) c.in-Some.bytes.now long
     (front_read c.args.input.now c.skip.new.self reader.remaining c.in-Some.bytes.now count same within c.in-Some.ensures.capacity c.skip.ensures.unread c.skip.ensures.capacity)

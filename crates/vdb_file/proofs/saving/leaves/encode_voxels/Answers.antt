@@ -1,5 +1,4 @@
-use Rattle.vdb_file.proofs.Common.{arith, ◌≡◌, ◌≤◌, ◌∙◌, ℕ, ◌+◌, ◌-◌, refl, ap, sym, drop, length, length-drop, length-take-le, take, put_mid, same_len_mid, cell_in, cell_bytes, numbered, passing}
-use Rattle.std.proofs.lemmas.Slice.{take-put_mid_below}
+use Rattle.vdb_file.proofs.Common.{arith, ◌≡◌, ◌≤◌, ◌∙◌, ℕ, ◌+◌, ◌-◌, refl, ap, sym, drop, length, length-drop, length-take-le, same_len_mid, cell_in, cell_bytes, numbered, passing}
 use Rattle.vdb_file.proofs.LeafVoxels.{part_kept, stands, voxel_added, voxel_counted, voxel_left, voxel_passed}
 use Rattle.vdb_file.proofs.Passing.{passing_few}
 use Rattle.vdb_file.proofs.saving.leaves.encode_voxels.Goals as goal
@@ -23,16 +22,18 @@ loop-i-preserved g c =
     let long = c.loop-i.invariant.long in
     let less = c.loop-i-test.true in
     let most = c.requires.few in
-    let put = c.put_voxel-size.ensures in
-    let size = put.few in
-    let whole = put.length in
-    let fits : c.loop-i.len + 11 ≤ length c.loop-i.bytes = omega (arith, few, long, less, most) in
+    let start : c.loop-i.len + 11 ≤ length c.loop-i.bytes = omega (arith, few, long, less, most) in
     record {
       few = elim c.if-ne.branch [
-        | then-ne w ↦ let is = w.len-is in omega (arith, is, few, size)
+        | then-ne w ↦ let is = w.len-is in let size = w.put_voxel-len.ensures.few in omega (arith, is, few, size)
         | else-ne w ↦ let is = w.len-is in omega (arith, is, few)
       ];
-      long = same_len_mid c.loop-i.len (c.loop-i.len + 11 - c.loop-i.len) c.loop-i.bytes c.put_voxel-size.new.bytes (omega (arith, whole, fits, length-take-le 11 (drop c.loop-i.len c.loop-i.bytes), length-drop c.loop-i.len c.loop-i.bytes)) ∙ long;
+      long = elim c.if-ne.branch [
+        | then-ne w ↦
+            let whole = w.put_voxel-len.ensures.length in
+            rw w.bytes-is (same_len_mid c.loop-i.len (c.loop-i.len + 11 - c.loop-i.len) c.loop-i.bytes w.put_voxel-len.new.bytes (omega (arith, whole, start, length-take-le 11 (drop c.loop-i.len c.loop-i.bytes), length-drop c.loop-i.len c.loop-i.bytes)) ∙ long)
+        | else-ne w ↦ rw w.bytes-is long
+      ];
       count = λ d.
           let e = c.entry-cell.ensures d in
           elim c.if-ne.branch [
@@ -43,13 +44,10 @@ loop-i-preserved g c =
           let e = c.entry-cell.ensures d in
           elim c.if-ne.branch [
             | then-ne w ↦
-                ap (λ (n : ℕ). take n (put_mid c.loop-i.len (c.loop-i.len + 11 - c.loop-i.len) c.loop-i.bytes c.put_voxel-size.new.bytes)) w.len-is
-                ∙ part_kept 11 c.loop-i.bytes c.put_voxel-size.new.bytes _ _ c.loop-i.len c.put_voxel-size.result fits whole size refl put.bytes
-                ∙ voxel_added eq leaf d c.args.background bytes c.loop-i.i c.entry-cell.result e _ (c.loop-i.invariant.bytes d) (sym c.ne.ensures ∙ w.if-ne.true)
-            | else-ne w ↦
-                ap (λ (n : ℕ). take n (put_mid c.loop-i.len (c.loop-i.len + 11 - c.loop-i.len) c.loop-i.bytes c.put_voxel-size.new.bytes)) w.len-is
-                ∙ take-put_mid_below c.loop-i.len (c.loop-i.len + 11 - c.loop-i.len) c.loop-i.bytes c.put_voxel-size.new.bytes c.loop-i.len (omega arith) (omega (arith, fits))
-                ∙ voxel_left eq leaf d c.args.background bytes c.loop-i.i c.entry-cell.result e _ (c.loop-i.invariant.bytes d) (sym c.ne.ensures ∙ w.if-ne.false)
+                rw (w.len-is, w.bytes-is)
+                (part_kept 11 c.loop-i.bytes w.put_voxel-len.new.bytes _ _ c.loop-i.len w.put_voxel-len.result start w.put_voxel-len.ensures.length w.put_voxel-len.ensures.few refl w.put_voxel-len.ensures.bytes
+                ∙ voxel_added eq leaf d c.args.background bytes c.loop-i.i c.entry-cell.result e _ (c.loop-i.invariant.bytes d) (sym c.ne.ensures ∙ w.if-ne.true))
+            | else-ne w ↦ rw (w.len-is, w.bytes-is) (voxel_left eq leaf d c.args.background bytes c.loop-i.i c.entry-cell.result e _ (c.loop-i.invariant.bytes d) (sym c.ne.ensures ∙ w.if-ne.false))
           ];
     }
 

@@ -1,17 +1,7 @@
-use Rattle.vdb_file.proofs.Common.{arith, ◌≡◌, ◌≤◌, ◌∙◌, ℕ, ap, sym, length, length-take-le, take, cell_in, cell_bytes, numbered, passing}
-use Rattle.vdb_file.proofs.LeafVoxels.{bytes_counted, bytes_passed, stands, voxel_counted, voxel_passed}
-use Rattle.vdb_file.proofs.Passing.{passing_few}
+use Rattle.vdb_file.proofs.Common.{arith, ◌≡◌, ◌∙◌, ℕ, ap, sym, length, length-take-le, cell_in, cell_bytes, numbered, passing}
+use Rattle.vdb_file.proofs.LeafVoxels.{bytes_counted, bytes_passed, stands}
 use Rattle.vdb_file.proofs.saving.leaves.measure_voxels.Goals as goal
 use Rattle.vdb_file.proofs.saving.leaves.measure_voxels.Goals.{then-ne, else-ne}
-
-pub overflow_add-count : goal.overflow_add-count
-overflow_add-count g c =
-    let d = c.entry-cell.result in
-    let few = passing_few (stands g.V.PartialEq.eq c.args.leaf.now d c.args.background) c.loop-i.i in
-    let counted = c.loop-i.invariant.count d in
-    let less = c.loop-i-test.true in
-    let most = c.requires.few in
-    omega (arith, few, counted, less, most)
 
 pub loop-i-preserved : goal.loop-i-preserved
 loop-i-preserved g c =
@@ -29,12 +19,6 @@ loop-i-preserved g c =
         | then-ne w ↦ let is = w.len-is in omega (arith, is, few, size)
         | else-ne w ↦ let is = w.len-is in omega (arith, is, few)
       ];
-      count = λ d.
-          let e = c.entry-cell.ensures d in
-          elim c.if-ne.branch [
-            | then-ne w ↦ w.count-is ∙ voxel_counted eq leaf d c.args.background c.loop-i.i c.loop-i.count cell e (sym c.ne.ensures ∙ w.if-ne.true) (c.loop-i.invariant.count d)
-            | else-ne w ↦ w.count-is ∙ voxel_passed eq leaf d c.args.background c.loop-i.i c.loop-i.count cell e (sym c.ne.ensures ∙ w.if-ne.false) (c.loop-i.invariant.count d)
-          ];
       bytes = λ d.
           let e = c.entry-cell.ensures d in
           elim c.if-ne.branch [
@@ -43,15 +27,8 @@ loop-i-preserved g c =
           ];
     }
 
-pub returns-clause-count : goal.returns-clause-count
-returns-clause-count g c d =
-    let last = c.loop-i.auto.i-end in
-    let past = c.loop-i-test.false in
-    let e : c.loop-i.i ≡ c.args.n = omega (arith, last, past) in
-    c.loop-i.invariant.count d ∙ ap (λ (n : ℕ). length (passing (stands g.V.PartialEq.eq c.args.leaf.now d c.args.background) n)) e
-
-pub returns-clause-bytes : goal.returns-clause-bytes
-returns-clause-bytes g c d =
+pub returns : goal.returns
+returns g c d =
     let last = c.loop-i.auto.i-end in
     let past = c.loop-i-test.false in
     let e : c.loop-i.i ≡ c.args.n = omega (arith, last, past) in

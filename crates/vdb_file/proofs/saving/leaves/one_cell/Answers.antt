@@ -1,4 +1,4 @@
-use Rattle.vdb_file.proofs.Common.{◌≡◌, ◌∙◌, arith, rules, entries, vdb, Leaf, fits_everywhere, exact_by}
+use Rattle.vdb_file.proofs.Common.{◌≡◌, ◌∙◌, rules, entries, vdb, Leaf, fits_everywhere, exact_by}
 use Rattle.vdb_tree.proofs.Constants.{entries_some, last_ends, last_within}
 use Rattle.vdb_file.proofs.LeafVoxels.{one_at, one_test}
 use Rattle.vdb_file.proofs.Standard.{standard_bits, standard_leaf_small}

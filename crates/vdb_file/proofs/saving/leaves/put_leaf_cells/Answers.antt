@@ -1,4 +1,4 @@
-use Rattle.vdb_file.proofs.Common.{◌≡◌, ◌∙◌, arith, ap, sym, length, rules, on_ok_weaker, block_around, entries, vdb, Leaf, fits_everywhere, off, field_of, exact_by, voxel_body}
+use Rattle.vdb_file.proofs.Common.{◌≡◌, ◌∙◌, ◌∷◌, arith, ap, refl, sym, length, w16, to_be_bytes, rules, on_ok_weaker, block_around, entries, vdb, Leaf, fits_everywhere, off, field_of, exact_by, voxel_body, listed, source}
 use Rattle.vdb_file.proofs.LeafVoxels.{listed_voxels, voxels_put}
 use Rattle.vdb_file.proofs.Outputs.{puts_same}
 use Rattle.vdb_file.proofs.PutBlocks.{node_put}
@@ -22,7 +22,7 @@ returns-clause-puts g c =
     let count = (rw (c.background.ensures, n) at c.encode_voxels-len.ensures.count (off t.background)) ∙ ap length (sym listed_are) in
     let encoded = rw (c.background.ensures, n) at c.encode_voxels-len.ensures.bytes (off t.background) in
     on_ok_weaker c.put.result
-    (λ h. node_put eq bytes vdb (field_of vdb t) (voxel_body eq bytes vdb (field_of vdb t)) Leaf (block_around vdb Leaf c.args.p) _ _ _ c.encode_voxels-len.result.1 (sym c.in_default.ensures.test) c.in_ok-put_head-2.ensures.puts count
+    (λ h. node_put eq bytes vdb (field_of vdb t) (voxel_body eq bytes vdb (field_of vdb t)) Leaf (block_around vdb Leaf c.args.p) _ _ _ c.encode_voxels-len.result.1 (sym c.in_default.ensures.test) c.in_ok-put_head.ensures.puts count
     (voxels_put eq exact g.met.V.Eq.laws.refl vdb standard_bits t c.args.p inside c.args.leaf.now c.requires bytes _ _ (puts_same _ _ _ _ encoded h)))
     c.put.ensures.puts
 
@@ -39,8 +39,8 @@ returns-then-this-eq-COUNTING-clause-puts g c =
     let bytes = g.V.Voxel.bytes_of in
     let inside = fits_everywhere c.args.p (search rules) (search rules) (search rules) in
     let n : c.from-n.result ≡ entries vdb Leaf = c.from-n.ensures ∙ c.entries.ensures in
-    let listed_are = listed_voxels eq exact g.met.V.Eq.laws.refl vdb standard_bits t c.args.p inside c.args.leaf.now c.requires bytes in
-    let count = (rw (c.background.ensures, n) at c.measure_voxels-len.ensures.count (off t.background)) ∙ ap length (sym listed_are) in
-    let measured = rw (c.background.ensures, n) at c.measure_voxels-len.ensures.bytes (off t.background) in
-    node_put eq bytes vdb (field_of vdb t) (voxel_body eq bytes vdb (field_of vdb t)) Leaf (block_around vdb Leaf c.args.p) _ _ _ c.measure_voxels-len.result.1 (sym c.in_default.ensures.test) c.in_ok-put_head.ensures.puts count
-    (voxels_put eq exact g.met.V.Eq.laws.refl vdb standard_bits t c.args.p inside c.args.leaf.now c.requires bytes _ _ (c.count.ensures _ _ _ (sym measured)))
+    let measured = rw (c.background.ensures, n) at c.measure_voxels-len.ensures (off t.background) in
+    let count = length (listed eq bytes vdb (field_of vdb t) Leaf (block_around vdb Leaf c.args.p)) in
+    let known = g.W.Write.contents (source c.args.writer.now) in
+    node_put eq bytes vdb (field_of vdb t) (voxel_body eq bytes vdb (field_of vdb t)) Leaf (block_around vdb Leaf c.args.p) _ _ _ count (sym c.in_default.ensures.test) (c.count.ensures known known (3 ∷ to_be_bytes w16 count) refl) refl
+    (voxels_put eq exact g.met.V.Eq.laws.refl vdb standard_bits t c.args.p inside c.args.leaf.now c.requires bytes _ _ (c.count-then-this-eq-COUNTING.ensures known known _ (sym measured)))

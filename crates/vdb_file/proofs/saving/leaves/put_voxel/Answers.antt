@@ -1,4 +1,4 @@
-use Rattle.vdb_file.proofs.Common.{◌≡◌, ◌∙◌, ◌<◌, ◌≤◌, ℕ, ◌+◌, ◌-◌, List, ◌∷◌, [], ◌++◌, arith, ap, drop, length, length-drop, length-take-le, take, take-take, put_mid, same_len_mid, w16, to_be_bytes}
+use Rattle.vdb_file.proofs.Common.{◌≡◌, ◌∙◌, ◌≤◌, ℕ, ◌+◌, ◌-◌, List, ◌∷◌, [], ◌++◌, arith, ap, drop, length, length-drop, length-take-le, take, take-take, put_mid, same_len_mid, w16, to_be_bytes}
 use Rattle.vdb_file.proofs.LeafVoxels.{part_kept}
 use Rattle.vdb_file.proofs.saving.leaves.put_voxel.Goals as goal
 

@@ -32,7 +32,7 @@ put_node-returns-clause-puts g t c =
     let eq = g.V.PartialEq.eq in
     let bytes = g.V.Voxel.bytes_of in
     on_ok_weaker c.put_entries.result
-    (λ h. node_put eq bytes vdb f (level_body eq bytes vdb c.args.below f) level (block_around vdb level c.args.p) _ _ _ c.count_listed-count.result (sym c.in_default.ensures.test) c.in_ok-put_head.ensures.puts c.count_listed-count.ensures h)
+    (λ h. node_put eq bytes vdb f (level_body eq bytes vdb c.args.below f) level (block_around vdb level c.args.p) _ _ _ _ (sym c.in_default.ensures.test) c.in_ok-put_node_head.ensures.puts refl h)
     c.put_entries.ensures.puts
 
 pub put_entries-overflow_cast-i : goal.put_entries-overflow_cast-i

@@ -1,4 +1,4 @@
-use Rattle.vdb_tree.proofs.Common.{◌≡◌, ◌≤◌, ◌-◌, entries, Upper, bits_of, field_of}
+use Rattle.vdb_tree.proofs.Common.{◌≤◌, ◌-◌, entries, Upper, bits_of, field_of, IsCountTo}
 use Rattle.vdb_tree.proofs.ActiveCounts.{active_below}
 use Rattle.vdb_tree.proofs.tree.TreeOf.active_in_upper_node.Given as goal
 
@@ -6,7 +6,7 @@ abbrev pub invariant-entries : goal.invariant-entries
 invariant-entries g l =
     let bits = bits_of g.row.U g.row.L g.row.F in
     record {
-      counted : l.total ≡ active_below (field_of bits l.self) bits Upper l.p l.from;
+      counted : IsCountTo l.enough (active_below (field_of bits l.self) bits Upper l.p l.from) l.total;
       within : l.from ≤ entries bits Upper;
     }
 

@@ -1,10 +1,11 @@
-use Rattle.vdb_tree.proofs.Common.{◌≡◌, ◌≢◌, ◌≤◌, ◌∙◌, ap, arith, refl, rules, subst, sym, Err, common_steps, fits_everywhere, block_around, Leaf, Tile, Field, fill, bits_of, field_of, lower_entry, roots, Memory, RootLimit}
+use Rattle.vdb_tree.proofs.Common.{◌≡◌, ◌≢◌, ◌≤◌, ◌∙◌, ap, arith, refl, rules, subst, sym, Err, common_steps, fits_everywhere, block_around, Leaf, Lower, Upper, Tile, Field, KeepsElsewhere, Layout, fill, bits_of, field_of, lower_entry, roots, Memory, RootLimit}
 use Rattle.vdb_tree.proofs.Blocks.{never}
+use Rattle.vdb_tree.proofs.MadeNodes.{but_elsewhere, elsewhere_itself, elsewhere_twice}
 use Rattle.vdb_tree.proofs.Needed.{child_of}
 use Rattle.vdb_tree.proofs.Splits.{keeps_twice}
 use Rattle.vdb_tree.proofs.Uniform.{cell_exact, cell_same, exact_by}
 use Rattle.vdb_tree.proofs.Writes.{full_outcome, kept_outcome, leaf_has_capacity, tile_field_cell}
-use Rattle.vdb_tree.proofs.WrittenLeaves.{fill_altered, fill_differs, filled_field, tile_field}
+use Rattle.vdb_tree.proofs.WrittenLeaves.{fill_altered, fill_differs, filled_field, leaf_elsewhere, tile_field}
 use Rattle.vdb_tree.proofs.tree.TreeOf.fill_leaf_block.Goals as goal
 use Rattle.vdb_tree.proofs.tree.TreeOf.fill_leaf_block.Goals.{in-Tile+else-eq, in_default}
 
@@ -69,3 +70,47 @@ returns-clause-outcome g c =
       filled_field bits c.args.p c.args.cell t mid c.fill_leaf.new.self keeps c.fill_leaf.ensures.fills,
       c.in_ok-make_capacity.ensures.within _ (fill_altered bits c.args.p c.args.cell (field_of bits t)),
     )
+
+pub returns-then-eq-clause-elsewhere : goal.returns-then-eq-clause-elsewhere
+returns-then-eq-clause-elsewhere g c = λ capacity. elsewhere_itself (bits_of g.row.U g.row.L g.row.F) c.args.self.now c.args.p
+
+pub returns-then-eq-clause-tile : goal.returns-then-eq-clause-tile
+returns-then-eq-clause-tile g c =
+    let exact = exact_by g.V.PartialEq.eq g.V.Ord.cmp g.met.V.Ord.matches_eq g.met.V.Voxel.exact in
+    c.leaf_entry.ensures.value ∙ c.in-Tile.is ∙ ap Tile (cell_exact g.V.PartialEq.eq exact g.met.V.Eq.laws.refl c.in-Tile.tile c.args.cell (sym c.eq.ensures ∙ c.if-eq.true))
+
+pub returns-in_err-make_capacity-clause-elsewhere : goal.returns-in_err-make_capacity-clause-elsewhere
+returns-in_err-make_capacity-clause-elsewhere g c = λ capacity.
+    let bits = bits_of g.row.U g.row.L g.row.F in
+    subst (λ (t : Layout g.row.V.Denot). KeepsElsewhere bits c.args.self.now t c.args.p) (sym (c.make_capacity.ensures.there capacity).1) (elsewhere_itself bits c.args.self.now c.args.p)
+
+pub returns-in_err-upper-clause-elsewhere : goal.returns-in_err-upper-clause-elsewhere
+returns-in_err-upper-clause-elsewhere g c = λ capacity.
+    let bits = bits_of g.row.U g.row.L g.row.F in
+    let at = c.upper_around.new.self in
+    subst (λ (t : Layout g.row.V.Denot). KeepsElsewhere bits t at c.args.p) (c.make_capacity.ensures.there capacity).1
+    (but_elsewhere bits Upper c.make_capacity.new.self at c.args.p c.upper_around.ensures.but)
+
+pub returns-in_err-lower-clause-elsewhere : goal.returns-in_err-lower-clause-elsewhere
+returns-in_err-lower-clause-elsewhere g c = λ capacity.
+    let bits = bits_of g.row.U g.row.L g.row.F in
+    let at = c.upper_around.new.self in
+    let mid = c.lower_in.new.self in
+    subst (λ (t : Layout g.row.V.Denot). KeepsElsewhere bits t mid c.args.p) (c.make_capacity.ensures.there capacity).1
+    (elsewhere_twice bits c.make_capacity.new.self at mid c.args.p
+    (but_elsewhere bits Upper c.make_capacity.new.self at c.args.p c.in_ok-upper.ensures.but) (but_elsewhere bits Lower at mid c.args.p c.lower_in.ensures.but))
+
+pub returns-clause-elsewhere : goal.returns-clause-elsewhere
+returns-clause-elsewhere g c = λ capacity.
+    let bits = bits_of g.row.U g.row.L g.row.F in
+    let at = c.upper_around.new.self in
+    let mid = c.lower_in.new.self in
+    let new = c.fill_leaf.new.self in
+    subst (λ (t : Layout g.row.V.Denot). KeepsElsewhere bits t new c.args.p) (c.make_capacity.ensures.there capacity).1
+    (elsewhere_twice bits c.make_capacity.new.self mid new c.args.p
+    (elsewhere_twice bits c.make_capacity.new.self at mid c.args.p
+    (but_elsewhere bits Upper c.make_capacity.new.self at c.args.p c.in_ok-upper.ensures.but) (but_elsewhere bits Lower at mid c.args.p c.in_ok-lower.ensures.but))
+    (leaf_elsewhere bits c.args.p c.args.cell mid new c.fill_leaf.ensures.above c.fill_leaf.ensures.entries))
+
+pub returns-clause-tile : goal.returns-clause-tile
+returns-clause-tile g c = c.fill_leaf.ensures.entries.here c.args.p refl

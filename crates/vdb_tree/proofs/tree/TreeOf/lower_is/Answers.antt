@@ -1,5 +1,5 @@
 use Rattle.vdb_tree.proofs.Common.{arith, refl, Lower, bits_of}
-use Rattle.vdb_tree.proofs.BlockTests.{entry_differs, none_below}
+use Rattle.vdb_tree.proofs.BlockTests.{entry_differs, entry_test, none_below}
 use Rattle.vdb_tree.proofs.Constants.{entries_few}
 use Rattle.vdb_tree.proofs.UnlikeEntries.{below_all, below_next, index_after, index_fits, least, nearer}
 use Rattle.vdb_tree.proofs.tree.TreeOf.lower_is.Goals as goal
@@ -11,19 +11,22 @@ loop-index-init g c =
       within = least _;
     }
 
-pub returns-then-not-leaf_entry_is : goal.returns-then-not-leaf_entry_is
-returns-then-not-leaf_entry_is g c =
-    entry_differs (bits_of g.row.U g.row.L g.row.F) c.args.self.now Lower c.args.p c.args.cell c.in-Some.index c.leaf_entry_is.result c.if-not-leaf_entry_is.true c.leaf_entry_is.ensures
+pub returns-then-not-leaf_block_is : goal.returns-then-not-leaf_block_is
+returns-then-not-leaf_block_is g c =
+    let bits = bits_of g.row.U g.row.L g.row.F in
+    entry_differs bits c.args.self.now Lower c.args.p c.args.cell c.in-Some.index c.leaf_block_is.result c.if-not-leaf_block_is.true
+    (entry_test bits c.args.self.now Lower c.args.p c.args.cell c.in-Some.index c.leaf_corner-corner.result c.leaf_corner-corner.ensures.block c.leaf_corner-corner.ensures.entry c.leaf_block_is.result c.leaf_block_is.ensures)
 
 pub overflow_add-from : goal.overflow_add-from
 overflow_add-from g c = let k = index_fits c.in-Some.index _ c.in-Some.ensures.within (entries_few (bits_of g.row.U g.row.L g.row.F) Lower c.self.invariant.0.bits) in omega (arith, k)
 
 pub loop-index-preserved : goal.loop-index-preserved
 loop-index-preserved g c =
+    let bits = bits_of g.row.U g.row.L g.row.F in
     record {
       below =
-          below_next (bits_of g.row.U g.row.L g.row.F) c.args.self.now Lower c.args.p c.args.cell c.loop-index.from c.in-Some.index c.loop-index.invariant.below c.in-Some.ensures
-          (c.leaf_entry_is.ensures.0 c.if-not-leaf_entry_is.false);
+          below_next bits c.args.self.now Lower c.args.p c.args.cell c.loop-index.from c.in-Some.index c.loop-index.invariant.below c.in-Some.ensures
+          ((entry_test bits c.args.self.now Lower c.args.p c.args.cell c.in-Some.index c.leaf_corner-corner.result c.leaf_corner-corner.ensures.block c.leaf_corner-corner.ensures.entry c.leaf_block_is.result c.leaf_block_is.ensures).0 c.if-not-leaf_block_is.false);
       within = index_after c.in-Some.index _ c.in-Some.ensures.within;
     }
 

@@ -1,8 +1,10 @@
-use Rattle.vdb_tree.proofs.Common.{◌≡◌, ◌∙◌, ap, arith, inl, inr, refl, rules, subst, sym, Err, IsTrue, None, Option, Some, common_steps, AreBits, Bits, fits_everywhere, IsConstantLeaf, entry_count, Cell, Field, Layout, bits_of, field_of, lower_entry, with_leaf, IsOutcome, in_leaf, Memory, RootLimit}
+use Rattle.vdb_tree.proofs.Common.{◌≡◌, ◌∙◌, ap, arith, inl, inr, refl, rules, subst, sym, Err, IsTrue, None, Option, Some, common_steps, AreBits, Bits, fits_everywhere, IsConstantLeaf, entry_count, Cell, Tile, Field, Layout, bits_of, field_of, lower_entry, with_leaf, KeepsElsewhere, IsOutcome, in_leaf, Memory, RootLimit}
 use Rattle.vdb_tree.proofs.Blocks.{never}
 use Rattle.vdb_tree.proofs.Equations.{keeps_field}
 use Rattle.vdb_tree.proofs.Levels.{tile_or_child}
+use Rattle.vdb_tree.proofs.MadeNodes.{elsewhere_itself}
 use Rattle.vdb_tree.proofs.Needed.{child_of}
+use Rattle.vdb_tree.proofs.SplitTiles.{on_ok}
 use Rattle.vdb_tree.proofs.Splits.{keeps_twice}
 use Rattle.vdb_tree.proofs.Writes.{full_outcome, kept_outcome, leaf_has_capacity}
 use Rattle.vdb_tree.proofs.WrittenLeaves.{leaf_altered, leaf_differs, leaf_fills}
@@ -10,6 +12,9 @@ use Rattle.vdb_tree.proofs.tree.TreeOf.write_leaf.Goals as goal
 
 none_some : {A : Type 0} (x : A) → ◌≡◌ {A = Option A} None (Some x) → ⊥
 none_some x e = cc
+
+some_one : {A : Type 0} (x y : A) → Some x ≡ Some y → x ≡ y
+some_one x y e = cc
 
 pub returns-in-Some-clause-outcome : goal.returns-in-Some-clause-outcome
 returns-in-Some-clause-outcome g c =
@@ -68,3 +73,26 @@ returns-clause-outcome g c =
       c.in_ok-put_leaf.ensures.field ∙ ap (with_leaf bits c.args.p c.args.leaf.now) (keeps_field bits t c.make_capacity.new.self c.make_capacity.ensures.keeps),
       c.in_ok-make_capacity.ensures.within (with_leaf bits c.args.p c.args.leaf.now (field_of bits t)) (leaf_altered bits c.args.p c.args.leaf.now (field_of bits t)),
     )
+
+pub returns-in_err-make_capacity-clause-elsewhere : goal.returns-in_err-make_capacity-clause-elsewhere
+returns-in_err-make_capacity-clause-elsewhere g c = λ capacity.
+    let bits = bits_of g.row.U g.row.L g.row.F in
+    subst (λ (t : Layout g.row.V.Denot). KeepsElsewhere bits c.args.self.now t c.args.p) (sym (c.make_capacity.ensures.there capacity).1) (elsewhere_itself bits c.args.self.now c.args.p)
+
+pub returns-in_err-put_leaf-clause-elsewhere : goal.returns-in_err-put_leaf-clause-elsewhere
+returns-in_err-put_leaf-clause-elsewhere g c = λ capacity.
+    let bits = bits_of g.row.U g.row.L g.row.F in
+    subst (λ (t : Layout g.row.V.Denot). KeepsElsewhere bits t c.put_leaf.new.self c.args.p) (c.make_capacity.ensures.there capacity).1 c.put_leaf.ensures.elsewhere
+
+pub returns-clause-elsewhere : goal.returns-clause-elsewhere
+returns-clause-elsewhere g c = λ capacity.
+    let bits = bits_of g.row.U g.row.L g.row.F in
+    subst (λ (t : Layout g.row.V.Denot). KeepsElsewhere bits t c.put_leaf.new.self c.args.p) (c.make_capacity.ensures.there capacity).1 c.put_leaf.ensures.elsewhere
+
+pub returns-in-Some-clause-tile : goal.returns-in-Some-clause-tile
+returns-in-Some-clause-tile g c =
+    on_ok c.fill_leaf_block.result c.fill_leaf_block.ensures.tile
+    (λ tile cell constant. tile ∙ ap Tile (some_one c.in-Some.cell cell (sym c.in-Some.is ∙ (c.constant.ensures cell).1 constant)))
+
+pub returns-clause-tile : goal.returns-clause-tile
+returns-clause-tile g c = λ cell constant. absurd (none_some cell (sym c.in_default.is ∙ (c.constant.ensures cell).1 constant))
