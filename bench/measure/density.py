@@ -12,8 +12,8 @@ import subprocess
 
 from . import programs
 from .parts import in_turn, room, row, table, tell, write
-from .places import OPENVDB, Failed, vdb
 from .play import play, play_well
+from .programs import OPENVDB, Failed, vdb
 
 # how many sets a script may have, by the length limit of a script
 SETS = 600_000

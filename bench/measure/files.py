@@ -4,8 +4,8 @@ import os
 
 from . import programs
 from .parts import in_turn, net, room, row, starts_of, table, tell, write
-from .places import vdb
 from .play import play_well
+from .programs import vdb
 from .scripts import write_scripts
 
 # the scripts of bench/openvdb/scripts.py whose last scene is saved, with what it holds

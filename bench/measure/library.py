@@ -5,8 +5,8 @@ import subprocess
 
 from . import programs
 from .parts import KEEP, KEEPING, in_turn, row, table, tell
-from .places import Failed
 from .play import LIMIT
+from .programs import Failed
 
 BENCHMARKS = ("accessors", "tree", "walks", "boxes", "pairs")
 

@@ -7,7 +7,7 @@ import subprocess
 import time
 
 from . import programs
-from .places import TOP, Failed
+from .programs import TOP, Failed
 
 
 def first_line(words, **how):

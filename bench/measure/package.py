@@ -20,7 +20,7 @@ sys.path[:0] = [BENCH, f"{os.path.dirname(BENCH)}/python"]
 import numpy as np  # noqa: E402
 import vdb  # noqa: E402
 import zarr  # noqa: E402
-from measure import places  # noqa: E402
+from measure import programs  # noqa: E402
 from measure.volumes import size  # noqa: E402
 from vdb import scenefile  # noqa: E402
 from vdb.arrays import write_box  # noqa: E402
@@ -182,7 +182,7 @@ def sparse(folder, labels, runs):
     """Returns the row of a sparse scene, whose peer is the program."""
     path = f"{folder}/s.vdbs"
     scenefile.Scene({"a": scenefile.Grid.from_array(labels)}).save(path)
-    program = [places.vdb(), "--load", path, os.devnull]
+    program = [programs.vdb(), "--load", path, os.devnull]
     series = measured((lambda: scenefile.load(path), lambda: subprocess.run(program, check=True)), runs)
     more = {"Active": f"{np.count_nonzero(labels):,} voxels", "File": f"{os.path.getsize(path) / 1e6:.0f} MB"}
     return [row("a sparse scene: from a file", series, **more)]

@@ -9,8 +9,8 @@ import os
 import shutil
 import sys
 import tempfile
+from statistics import median
 
-from .figures import median
 from .programs import say
 
 # the series of a table of times

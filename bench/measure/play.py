@@ -5,7 +5,7 @@ import signal
 from dataclasses import dataclass
 
 from . import programs
-from .places import Failed
+from .programs import Failed
 
 
 @dataclass

@@ -1,5 +1,6 @@
 # SPDX-License-Identifier: Apache-2.0
-"""Builds what is measured beside the program: the benchmarks over the crates' libraries, and the programs over OpenVDB.
+"""Builds what is measured beside the program: the benchmarks over the crates' libraries, and the programs over OpenVDB. Where things lie in
+the repository, and the one error that ends a part.
 
 A benchmark is a text of bench/library. It is proved and linked over the libraries that .ci/run left in the crates' folders
 out/, so that no crate is proved again. It is kept in bench/out, and built again only if the text, a library or the kit has changed.
@@ -14,10 +15,27 @@ import tempfile
 import threading
 from concurrent.futures import ThreadPoolExecutor
 
-from .places import BENCH, OPENVDB, OUT, TOP, Failed
+BENCH = os.path.dirname(os.path.dirname(os.path.abspath(__file__)))
+TOP = os.path.dirname(BENCH)
+OPENVDB = f"{BENCH}/openvdb"
+
+# programs that are built once and kept, which git ignores
+OUT = f"{BENCH}/out"
 
 # the most memory that the build of one benchmark takes, in bytes
 JOB = 4_000_000_000
+
+
+class Failed(Exception):
+    """A program or a library is missing, or a run of a program went wrong: the text says which, and what to do."""
+
+
+def vdb():
+    """Returns the program that is measured: the variable VDB, or the one that .ci/run --proofs leaves."""
+    program = os.environ.get("VDB") or f"{TOP}/crates/vdb/out/vdb"
+    if not os.access(program, os.X_OK) or os.path.isdir(program):
+        raise Failed(f"{os.path.relpath(program)} isn't an executable program: build it by .ci/run --proofs, or name another one in the variable VDB")
+    return os.path.abspath(program)
 
 
 def say(text):
@@ -124,7 +142,7 @@ def peer(name, making=threading.Lock()):
     """Returns a program over OpenVDB, `openvdb` or `loops`, which is built if need be."""
     with making:
         if not shutil.which("make"):
-            raise Failed("make isn't installed: bench/openvdb/README.md has the packages")
+            raise Failed("make isn't installed: bench/README.md has the packages")
         if subprocess.run(["make", "-q", name], cwd=OPENVDB, capture_output=True).returncode:
             say(f"building bench/openvdb/{name}, which takes one to three minutes")
         called(["make", name], OPENVDB, f"make {name} in bench/openvdb")

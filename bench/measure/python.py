@@ -5,7 +5,7 @@ import subprocess
 import sys
 
 from .parts import room, row, table
-from .places import BENCH, Failed
+from .programs import BENCH, Failed
 
 # the sides of the arrays in voxels, and those of the volumes past memory
 SIDE, QUICK_SIDE = 512, 128

@@ -5,8 +5,7 @@ They are made from results.txt alone, so anyone can compare them with it. A row 
 """
 import re
 
-from .figures import verdict
-from .tables import line, short
+from .tables import line, short, verdict
 
 # each subject of the summary, and its table in results.txt
 SUBJECTS = {

@@ -5,7 +5,7 @@ import json
 import os
 
 from . import chart, tables
-from .places import Failed
+from .programs import Failed
 
 
 def load(folder):

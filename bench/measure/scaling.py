@@ -4,11 +4,12 @@
 Each line of a script fills a box of 7 voxels along each axis, one in each leaf, so that 10^8 voxels fit in a script. Scripts of fewer voxels
 make their grid several times, one after another, so that each does enough to be measured.
 """
+from statistics import median
+
 from . import programs
-from .figures import median
 from .parts import STARTS, THREADS, in_turn, room, row, table, tell, write
-from .places import vdb
 from .play import play_well
+from .programs import vdb
 
 SIDE = 7
 

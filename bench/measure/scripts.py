@@ -6,8 +6,8 @@ import subprocess
 
 from . import programs
 from .parts import KEEP, KEEPING, in_turn, net, python, room, row, starts_of, table, tell, write
-from .places import OPENVDB, Failed, vdb
 from .play import play_well
+from .programs import OPENVDB, Failed, vdb
 
 SEEDS = ("7", "11")
 

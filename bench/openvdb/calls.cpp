@@ -1,7 +1,6 @@
 // SPDX-License-Identifier: Apache-2.0
 // Calls of the C library and vdb.hpp, or OpenVDB's, over the same voxels in the same order.
-#include "from_headers.h"
-#include "threads.h"
+#include "shared.h"
 #include "vdb.hpp"
 
 #include <openvdb/openvdb.h>

@@ -1,7 +1,6 @@
 // SPDX-License-Identifier: Apache-2.0
 // Loops over OpenVDB's library beside the benchmarks of ../library over the crates: the same rows, over the same voxels in the same order.
-#include "from_headers.h"
-#include "threads.h"
+#include "shared.h"
 
 #include <openvdb/openvdb.h>
 #include <openvdb/tools/Composite.h>

@@ -1,9 +1,8 @@
 // SPDX-License-Identifier: Apache-2.0
-// Plays the script language of vdb on the grids of OpenVDB, so that both can be measured on the same scripts. README.md beside this file
-// says what it can't do and where its answers differ. It writes each answer before it reads the next line.
+// Plays the script language of vdb on the grids of OpenVDB, so that both can be measured on the same scripts. ../README.md says
+// what it can't do and where its answers differ. It writes each answer before it reads the next line.
 
 #include "grids.h"
-#include "threads.h"
 
 #include <openvdb/tools/Composite.h>
 #include <openvdb/tools/Count.h>

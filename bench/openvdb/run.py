@@ -18,12 +18,12 @@ import os
 import shlex
 import sys
 import tempfile
+from statistics import median
 
 sys.path.insert(0, os.path.dirname(os.path.dirname(os.path.abspath(__file__))))
 
-from measure.figures import median
 from measure.parts import in_turn
-from measure.places import Failed
+from measure.programs import Failed
 from measure.scripts import Player
 
 

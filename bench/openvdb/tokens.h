@@ -2,7 +2,7 @@
 // The tokens of a line of a script, and what they name.
 #pragma once
 
-#include "from_headers.h"
+#include "shared.h"
 
 #include <openvdb/openvdb.h>
 

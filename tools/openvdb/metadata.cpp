@@ -3,6 +3,7 @@
 
 #include <algorithm>
 #include <array>
+#include <set>
 
 using openvdb::GridBase;
 using openvdb::MetaMap;
@@ -43,6 +44,29 @@ std::string reason_against(const std::string& key, const openvdb::Metadata& entr
     return pairs == scene::most_pairs ? "a scene's grid has at most 16 pairs" : "";
 }
 
+/// A name in small letters, with `_` for other bytes, of a scene's form.
+std::string simplified(const std::string& name) {
+    std::string made;
+    for (char byte : name) {
+        const bool capital = byte >= 'A' && byte <= 'Z';
+        const bool stays = (byte >= 'a' && byte <= 'z') || (byte >= '0' && byte <= '9');
+        made += capital ? char(byte - 'A' + 'a') : stays ? byte : '_';
+    }
+    if (made.empty()) return "grid";
+    if (made[0] < 'a' || made[0] > 'z') made = "g_" + made;
+    return made.substr(0, scene::most_name);
+}
+
+/// A name that isn't taken: this one, or its beginning with the least number from 2 on behind it.
+std::string untaken(const std::string& name, const std::set<std::string>& taken) {
+    std::string made = name;
+    for (int number = 2; taken.count(made) > 0; ++number) {
+        const std::string digits = std::to_string(number);
+        made = name.substr(0, scene::most_name - digits.size()) + digits;
+    }
+    return made;
+}
+
 }  // namespace
 
 scene::Pairs pairs_of(const GridBase& grid, const std::string& name, const Notices& notices) {
@@ -78,4 +102,17 @@ void store_metadata(MetaMap& metadata, const scene::Header& header) {
     for (const auto& [key, text] : header.pairs)
         metadata.insertMeta(is_reserved(key) ? prefix + key : key, openvdb::StringMetadata(text));
     if (header.limit != scene::usual_limit) metadata.insertMeta(limit_key, openvdb::Int32Metadata(int32_t(header.limit)));
+}
+
+std::vector<std::string> names_in_scene(const std::vector<std::string>& names) {
+    std::vector<std::string> made(names.size());
+    std::set<std::string> taken;
+    for (size_t grid = 0; grid < names.size(); ++grid)
+        if (scene::is_name(names[grid]) && taken.insert(names[grid]).second) made[grid] = names[grid];
+    for (size_t grid = 0; grid < names.size(); ++grid) {
+        if (!made[grid].empty()) continue;
+        made[grid] = untaken(simplified(names[grid]), taken);
+        taken.insert(made[grid]);
+    }
+    return made;
 }

@@ -1,11 +1,14 @@
 // SPDX-License-Identifier: Apache-2.0
-// Metadata of OpenVDB's grids made into the pairs and the limit of a scene's grid, and back.
+// Metadata of OpenVDB's grids made into the pairs and the limit of a scene's grid, and back; names of grids made into a scene's.
 #pragma once
 
 #include "program.h"
 #include "scene_file.h"
 
 #include <openvdb/Grid.h>
+
+#include <string>
+#include <vector>
 
 /// The pairs that a grid's metadata holds. Reports what can't be one.
 scene::Pairs pairs_of(const openvdb::GridBase& grid, const std::string& name, const Notices& notices);
@@ -19,3 +22,8 @@ void report_class(const openvdb::GridBase& grid, const std::string& name, const 
 
 /// Stores a header's pairs, and its limit unless that is the usual one.
 void store_metadata(openvdb::MetaMap& metadata, const scene::Header& header);
+
+/// The scene's name for each of these names: itself, if it can be one and none before it is the same. Another is in small letters, has
+/// `_` for any other byte and `g_` in front if it doesn't begin with a letter, is cut to 16 bytes, and ends in a number if it would be
+/// there twice. An empty one is `grid`.
+std::vector<std::string> names_in_scene(const std::vector<std::string>& names);

@@ -4,7 +4,6 @@
 #include "affine.h"
 #include "encode.h"
 #include "metadata.h"
-#include "names.h"
 #include "vdb_file.h"
 
 #include <algorithm>

@@ -1,6 +1,11 @@
 // SPDX-License-Identifier: Apache-2.0
-// The number of threads that the command line asks for.
+// What the programs over OpenVDB share. It stands before the first header of OpenVDB, and compiles OpenVDB's tools from its headers, with
+// the program's flags: Debian's library has instances of its own, which are compiled for processors without hardware bit counts.
 #pragma once
+
+#include <openvdb/version.h>
+
+#undef OPENVDB_USE_EXPLICIT_INSTANTIATION
 
 #include <tbb/global_control.h>
 
