@@ -11,13 +11,12 @@ from unittest import mock
 
 from PIL import Image
 
-from .support import TOP, np, scenefile, vdb
+from .support import TOP, CommandCase, np, scenefile, vdb
 
 from vdb.command import COMMANDS, STATUSES, main
 from vdb.label_names import Label
-from vdb.scenefile import montage, picture
+from vdb.scenefile import picture
 
-from .commands import CommandCase
 
 
 class CommandLine(CommandCase):
@@ -192,8 +191,8 @@ class CommandLine(CommandCase):
                 self.assertEqual(counts.pop(colour), 16 * int((part == value).sum()) + 14**2, (words, value))
             self.assertEqual(counts.pop(picture.INACTIVE), 16 * int((part == 0).sum()))
             self.assertGreater(counts.pop(picture.PAPER), 0)
-            self.assertGreater(counts[montage.INK], 10 * len(planes), "the text")
-            between = [all(ink <= part <= 255 for ink, part in zip(montage.INK, colour)) for colour in counts]
+            self.assertGreater(counts[picture.INK], 10 * len(planes), "the text")
+            between = [all(ink <= part <= 255 for ink, part in zip(picture.INK, colour)) for colour in counts]
             self.assertTrue(all(between), "the edges of letters")
         self.run_it("slice", "a.vdbs", "lab", "--axis", "z", "--at", "4092", "--montage", "2", "out.png", status=2)
         self.run_it("slice", "a.vdbs", "lab", "--axis", "z", "out.png", status=2)
@@ -203,10 +202,10 @@ class CommandLine(CommandCase):
         """The legend of a montage has the labels of the most voxels, and says how many others there are."""
         values = np.arange(1, 73, dtype=np.int32).reshape(8, 9, 1)
         planes, wanted = [picture.Plane("z = -1", values[:, :, 0], values[:, :, 0] != 5)], [value for value in range(1, 62) if value != 5]
-        labels, texts = montage.legend_of(planes, {7: Label("left ear"), 5: Label("unused")})
+        labels, texts = picture.legend_of(planes, {7: Label("left ear"), 5: Label("unused")})
         self.assertEqual(labels.tolist(), wanted)
         self.assertEqual(texts, [*("7 left ear" if value == 7 else str(value) for value in wanted), "+11 more"])
-        labels, texts = montage.legend_of([planes[0]._replace(active=values[:, :, 0] < 3)])
+        labels, texts = picture.legend_of([planes[0]._replace(active=values[:, :, 0] < 3)])
         self.assertEqual((labels.tolist(), texts), ([1, 2], ["1", "2"]))
 
     def pixels(self, name):

@@ -14,7 +14,7 @@ from ..errors import RangeError
 from ..forms import Bounds, check_coordinate
 from ..label_names import Names
 from ..scenefile import Grid, picture
-from ..scenefile.montage import Plane, montage
+from ..scenefile.picture import Plane, montage
 from .beneath import Gray, gray_of
 from .common import Problem, about, add_bounds, add_image_and_out, anatomy_of, box_of, count_word, opened, output, world_of
 from .panes import PLANES, VOXELS, Pane, panes_of, proportions

@@ -15,9 +15,7 @@ from ..forms import (
 )  # fmt: skip
 from ..manners import no_truth
 from ..reading import Walkable
-from . import reports
 from .dense import fill_arrays, tree_of
-from .masks import mask_of
 from .tree import Tree, empty_tree
 
 __all__ = ["Grid", "Mask", "Tile"]
@@ -160,12 +158,12 @@ class Grid(Walkable):
     @property
     def count(self) -> int:
         """How many voxels are active, those of active tiles too."""
-        return reports.count(self._tree)
+        return self._tree.count()
 
     @property
     def bounds(self) -> "Bounds | None":
         """The bounding box of the active voxels, its least and greatest coordinates, or None if no voxel is active."""
-        return reports.bounds(self._tree)
+        return self._tree.bounds()
 
     def _cell(self, at: Coordinate) -> "tuple[Value, bool]":
         return self._tree.find(*at)
@@ -212,7 +210,7 @@ class Grid(Walkable):
         return self._tree.equals(other._tree)
 
     def _mask(self, is_chosen: "Callable[[np.ndarray], np.ndarray]") -> "Mask":
-        return Mask._of(mask_of(self._tree, is_chosen), self._limit, images.kept(self._metadata, KINDS["bool"].dtype))
+        return Mask._of(self._tree.mask(is_chosen), self._limit, images.kept(self._metadata, KINDS["bool"].dtype))
 
 
 class Mask(Grid):
@@ -231,7 +229,7 @@ class Mask(Grid):
             grid = Grid("bool", limit=DEFAULT_LIMIT if limit is None else limit, metadata=metadata)
         pairs = grid.metadata if metadata is None else metadata
         super().__init__("bool", metadata={**pairs, **images.kept(pairs, None if grid.kind == "bool" else KINDS["bool"].dtype)})
-        self._tree = mask_of(grid._tree, lambda values: np.ones(values.shape, np.bool_))
+        self._tree = grid._tree.mask(lambda values: np.ones(values.shape, np.bool_))
         self.limit = grid.limit if limit is None else limit
 
     @classmethod

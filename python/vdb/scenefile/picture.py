@@ -1,10 +1,11 @@
 # SPDX-License-Identifier: Apache-2.0
-"""Pictures of slices, and the colours of labels. The package Pillow makes the pictures."""
+"""Pictures of slices and of several planes of voxels, and the colours of labels. The package Pillow makes the pictures."""
 from __future__ import annotations
 
 import io
+import math
 import re
-from typing import Any, List, NamedTuple, Optional, TextIO, Tuple
+from typing import Any, List, NamedTuple, Optional, Sequence, TextIO, Tuple
 
 import numpy as np
 
@@ -17,6 +18,11 @@ GAP = 24  # around slices and between them, in pixels
 PAPER = (255, 255, 255)
 INACTIVE = (228, 228, 224)
 PALE, DARK = (140, 180, 224), (20, 60, 120)
+#: The height of letters and the side of a label's square, and how many pixels a line of text has to the next one.
+LETTER, LINE = 14, 24
+INK = (60, 60, 58)
+#: The legend shows this many labels, those of the most voxels.
+LEGEND = 60
 #: The most bytes of the pixels of a picture, three per pixel, and of the answers of a script that are drawn.
 MAX_PIXELS, MAX_ANSWERS = 2**28, 2**26
 
@@ -133,3 +139,49 @@ def labels_of(plane: Plane, background: "bool | int", size: "Tuple[int, int]", n
         gray = plane.gray[..., None].astype(np.uint16)
         pixels = np.where(plane.active[..., None], (3 * colours + 2 * gray) // 5, gray)
     return pillow().fromarray(pixels.astype(np.uint8)).resize(size, pillow().Resampling.NEAREST)
+
+
+def font() -> Any:
+    """Returns the font of the system that reads best, or the one that is part of Pillow."""
+    library = pillow("ImageFont")
+    try:
+        return library.truetype("DejaVuSans.ttf", LETTER)
+    except (OSError, ImportError):
+        return library.load_default()
+
+
+def legend_of(planes: "Sequence[Plane]", names: Names = {}) -> "Tuple[np.ndarray, List[str]]":
+    """Returns the labels of planes (n) and their texts, of which one more says how many labels are left out."""
+    values, counts = np.unique(np.concatenate([plane.values[plane.active] for plane in planes]), return_counts=True)
+    kept = values[np.sort(np.argsort(-counts, kind="stable")[:LEGEND])]
+    texts = [" ".join([str(value).lower(), *(names[value].name.split() if value in names else [])]) for value in kept.tolist()]
+    return kept, texts + [f"+{len(values) - LEGEND} more"] * (len(values) > LEGEND)
+
+
+def montage(planes: "Sequence[Plane]", background: "bool | int", size: "Tuple[int, int]", names: Names = {}) -> Any:
+    """Returns the picture of planes of one shape, in rows of about the same width as height, with the legend of their labels.
+
+    A plane is `size` pixels wide and high. Raises RangeError for a picture that is too large, before it is made.
+    """
+    columns, rows = size
+    letters, (labels, texts) = font(), legend_of(planes, names)
+    cell = max(columns, *(math.ceil(letters.getlength(plane.title)) for plane in planes))
+    across = min(len(planes), max(1, round(math.sqrt(len(planes) * (rows + LINE + GAP) / (cell + GAP)))))
+    step = max((math.ceil(letters.getlength(text)) for text in texts), default=0) + LINE + GAP
+    width = GAP + max(across * (cell + GAP), step)
+    beside = (width - GAP) // step
+    top = GAP + -(-len(planes) // across) * (LINE + rows + GAP)
+    height = top + (-(-len(texts) // beside) * LINE + GAP if texts else 0)
+    check_size(width, height)
+    made = pillow().new("RGB", (width, height), PAPER)
+    draw, colours = pillow("ImageDraw").Draw(made), coloured(colours_of(labels), labels, names).tolist()
+    for place, plane in enumerate(planes):
+        x, y = GAP + place % across * (cell + GAP), GAP + place // across * (LINE + rows + GAP)
+        draw.text((x, y), plane.title, INK, letters)
+        made.paste(labels_of(plane, background, size, names), (x, y + LINE))
+    for place, text in enumerate(texts):
+        x, y = GAP + place % beside * step, top + place // beside * LINE
+        if place < len(labels):
+            made.paste(tuple(colours[place]), (x, y, x + LETTER, y + LETTER))
+        draw.text((x + LINE, y), text, INK, letters)
+    return made

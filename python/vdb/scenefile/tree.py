@@ -8,11 +8,11 @@ table of root blocks, then the entry of the upper node (15 bits), then the entry
 from __future__ import annotations
 
 from dataclasses import dataclass
-from typing import Iterator
+from typing import Callable, Iterator
 
 import numpy as np
 
-from ..forms import ENTRIES, KEY_SPAN, SIDES, Kind
+from ..forms import ENTRIES, KEY_SPAN, KINDS, SIDES, Bounds, Kind
 
 #: How many bits a code has below its root block's place, for leaf extents, lower extents and upper extents.
 CODE_BITS = (27, 15, 0)
@@ -130,6 +130,78 @@ class Tree:
                 return leaves.values[first + at].item(), bool(leaves.active[first + at])
         return self.background, False
 
+    def count(self) -> int:
+        """Returns how many voxels are active, those of tiles too."""
+        found = int(np.count_nonzero(self.leaves.active))
+        return found + sum(int(np.count_nonzero(tiles.active)) * side**3 for tiles, side in zip(self.tiles, SIDES))
+
+    def bounds(self) -> "Bounds | None":
+        """Returns the bounding box of the active voxels, or None if there are none."""
+        boxes = []
+        for level, tiles in enumerate(self.tiles):
+            lows = self.origins(tiles.codes[tiles.active], level)
+            if len(lows):
+                boxes.append((lows.min(axis=0), lows.max(axis=0) + SIDES[level] - 1))
+        if self.leaves.active.any():
+            boxes.append(self._leaf_bounds())
+        if not boxes:
+            return None
+        low = np.min([low for low, _ in boxes], axis=0).tolist()
+        high = np.max([high for _, high in boxes], axis=0).tolist()
+        return (low[0], low[1], low[2]), (high[0], high[1], high[2])
+
+    def _leaf_bounds(self) -> "tuple[np.ndarray, np.ndarray]":
+        """Returns the bounding box of the active voxels of leaves, of which there is one at least.
+
+        Along each axis only the first and the last leaves with an active voxel have to be looked into.
+        """
+        leaves = self.leaves
+        some = np.flatnonzero(np.logical_or.reduceat(leaves.active, leaves.starts[:-1]))
+        origins = self.origins(leaves.codes[some])
+        low, high = origins.min(axis=0), origins.max(axis=0)
+        for axis in range(3):
+            first = self._within(some[origins[:, axis] == low[axis]], axis)
+            last = self._within(some[origins[:, axis] == high[axis]], axis)
+            low[axis] += first.min()
+            high[axis] += last.max()
+        return low, high
+
+    def _within(self, chosen: np.ndarray, axis: int) -> np.ndarray:
+        """Returns the parts along an axis, 0 to 7, of the active voxels of the chosen leaves."""
+        leaves = self.leaves
+        firsts, counts = leaves.starts[chosen], leaves.starts[chosen + 1] - leaves.starts[chosen]
+        places = np.arange(counts.sum()) + np.repeat(firsts - np.cumsum(counts) + counts, counts)
+        return leaves.index[places[leaves.active[places]]] >> 6 - 3 * axis & 7
+
+    def mask(self, is_chosen: "Callable[[np.ndarray], np.ndarray]") -> "Tree":
+        """Returns the tree of a mask: its active voxels, and no others, are True. They are those whose values, of any shape, are chosen."""
+        none = np.zeros(0, np.int64)
+        whole, codes, counts, numbers = [none], [none], [none], [np.zeros(0, np.uint16)]
+        for some, values, active in self.rows():
+            chosen = active & is_chosen(values)
+            every = chosen.all(axis=1)
+            listed = chosen.any(axis=1) & ~every
+            whole.append(some[every])
+            codes.append(some[listed])
+            counts.append(np.count_nonzero(chosen[listed], axis=1))
+            numbers.append((np.flatnonzero(chosen[listed]) & 511).astype(np.uint16))
+        found: "list[np.ndarray]" = []
+        carried = np.concatenate(whole)
+        for level, tiles in enumerate(self.tiles):
+            made = trues(np.sort(np.concatenate([carried, tiles.codes[tiles.active & is_chosen(tiles.values)]])))
+            made, larger = collapse(made, level) if level < 2 else (made, made)
+            found.append(made.codes)
+            carried = larger.codes
+        places = [np.concatenate(codes), *found]
+        bits = [CODE_BITS[0], *CODE_BITS]
+        used = np.unique(np.concatenate([part >> bit for part, bit in zip(places, bits)]))
+        leaf_codes, *tile_codes = (np.searchsorted(used, part >> bit) << bit | part & (1 << bit) - 1 for part, bit in zip(places, bits))
+        index = np.concatenate(numbers)
+        starts = np.concatenate([[0], np.cumsum(np.concatenate(counts), dtype=np.int64)])
+        states = np.ones(len(index), np.bool_)
+        small, middle, large = map(trues, tile_codes)
+        return Tree(KINDS["bool"], False, self.roots[used], Leaves(leaf_codes, starts, index, states, states), (small, middle, large))
+
 
 def columns(part: "Tiles | Leaves") -> "list[np.ndarray]":
     """Returns the arrays of tiles or leaves."""
@@ -177,3 +249,9 @@ def collapse(tiles: Tiles, level: int) -> "tuple[Tiles, Tiles]":
     firsts = np.array([first for _, first in made], np.int64)
     larger = Tiles(codes, tiles.values[firsts], tiles.active[firsts])
     return Tiles(tiles.codes[stays], tiles.values[stays], tiles.active[stays]), larger
+
+
+def trues(codes: np.ndarray) -> Tiles:
+    """Returns active tiles of True."""
+    states = np.ones(len(codes), np.bool_)
+    return Tiles(codes, states, states)
