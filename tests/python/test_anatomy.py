@@ -8,13 +8,12 @@ from unittest import mock
 import nibabel
 from PIL import Image
 
-from .support import np, scenefile
+from .support import CommandCase, np, scenefile
 
 from vdb.command.common import anatomy_of
 from vdb.command.panes import ENDS, axes_of, panes_of
 from vdb.scenefile.picture import INACTIVE, colours_of
 
-from .commands import CommandCase
 
 
 def rotation(luck, most=0.5):

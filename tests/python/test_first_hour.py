@@ -8,8 +8,7 @@ import warnings
 import zlib
 from xml.etree import ElementTree
 
-from .commands import CommandCase
-from .support import library_missing, np, scenefile, vdb
+from .support import CommandCase, library_missing, np, scenefile, vdb
 
 from vdb import formats
 

@@ -4,8 +4,7 @@ import doctest
 import json
 import unittest
 
-from .commands import CommandCase
-from .support import np, scenefile, vdb
+from .support import CommandCase, np, scenefile, vdb
 
 from vdb import images, label_names
 

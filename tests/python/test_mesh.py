@@ -9,14 +9,13 @@ import struct
 import unittest
 from unittest import mock
 
-from .support import EXTREMES, chance, encoding, np, random_array, scenefile, vdb
+from .support import EXTREMES, CommandCase, chance, encoding, np, random_array, scenefile, vdb
 
 from vdb.command import main
 from vdb.command.mesh import model_of
 from vdb.scenefile.faces import faces
 from vdb.scenefile.mesh import merged, mesh_of
 
-from .commands import CommandCase
 
 LEAST, MOST = -(2**31), 2**31 - 1
 TYPES = {"double": "<f8", "int": "<i4", "uchar": "u1"}

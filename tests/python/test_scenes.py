@@ -8,8 +8,7 @@ import unittest
 from pathlib import Path
 from unittest import mock
 
-from .commands import CommandCase
-from .support import chance, encoding, library_missing, made_by_program, needs_program, np, play, scenefile, vdb
+from .support import CommandCase, chance, encoding, library_missing, made_by_program, needs_program, np, play, scenefile, vdb
 
 from random_scripts import Script
 

@@ -6,8 +6,7 @@ import subprocess
 import unittest
 import warnings
 
-from .commands import CommandCase
-from .support import PROGRAM, chance, library_missing, needs_program, np, random_array, scenefile, vdb
+from .support import PROGRAM, CommandCase, chance, library_missing, needs_program, np, random_array, scenefile, vdb
 
 from vdb import formats, label_names
 

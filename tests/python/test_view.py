@@ -10,14 +10,13 @@ from unittest import mock
 
 import nibabel
 
-from .support import chance, encoding, np, random_array, scenefile
+from .support import CommandCase, chance, encoding, np, random_array, scenefile
 
 from vdb.command.page import Page
 from vdb.scenefile.picture import colours_of
 
 from .browser import CHROMIUM, Browser
 from .test_anatomy import affines, head
-from .commands import CommandCase
 
 OUTSIDE, EMPTY = (11, 12, 15), (26, 29, 33)
 LOW = (-21, 4085, 7)

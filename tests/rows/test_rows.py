@@ -1,6 +1,7 @@
 #!/usr/bin/env python3
 # SPDX-License-Identifier: Apache-2.0
-"""Tests of the reader of rows, of the files of rows, and of the player over programs that answer wrongly."""
+"""Tests of the reader of rows, of the files of rows, of the player over programs that answer wrongly, and of the fuzzer's model: it answers each
+row as the row says, and writes the file that the row saves."""
 import subprocess
 import sys
 import tempfile
@@ -9,6 +10,10 @@ from pathlib import Path
 
 import rows
 from rows import DATA, TOP, Malformed
+
+sys.path.insert(0, str(TOP / "tests" / "fuzz"))
+from language import Scene  # noqa: E402
+from mutating import corpus, encoding, lines_of  # noqa: E402
 
 WHOLE = """\
 # Rows for the tests.
@@ -164,6 +169,26 @@ class Playing(unittest.TestCase):
 
     def test_malformed(self):
         self.assertEqual(self.play("# a\nok\n", ":"), (1, "rows.py: FILE:2: a line stands before the first row\n"))
+
+
+class Model(unittest.TestCase):
+    def test_answers(self):
+        played = [row for row in corpus() if not row.stderr]
+        self.assertGreater(len(played), 150)
+        for row in played:
+            with self.subTest(row.place):
+                scene = Scene.loaded(row.load) if row.load else Scene()
+                found = [line for text in lines_of(row) for line in scene.answer(text)]
+                self.assertEqual(found, [answer.text for answer in row.answers])
+                if row.saved:
+                    self.assertEqual(scene.saved(), row.saved)
+
+    def test_faults(self):
+        rejected = [row for row in corpus() if row.stderr]
+        self.assertGreater(len(rejected), 30)
+        for row in rejected:
+            with self.subTest(row.place):
+                self.assertEqual(encoding.verdict(row.load), row.stderr.decode().split()[-1])
 
 
 if __name__ == "__main__":
