@@ -3,9 +3,10 @@
 """Tells which rows, calls of C and library tests reach each public function of the proved crates: called.py [--rows] [WORD..]
 
 The lists of calls are those of the compiled crates, crates/NAME/out, which `.ci/run --proofs` makes. They say what a function may call, so a row
-reaches what its commands may reach. The call of a method of a trait may reach each type's. Tests are read as text: one reaches a
-function if it uses its crate and calls its name, and the C library, of which there is no list, too. A line names the function and what reaches it; with WORDs only the functions whose names
-have one. --rows tells of each row how many functions it reaches. A function that nothing reaches fails. The last line is 'N passed, M failed'."""
+reaches what its commands may reach. The call of a method of a trait may reach each type's. Library tests and the C library, of which there is
+no list, are read as text: one calls a function if it uses its crate and calls its name, and reaches what that may call. A line names the
+function and what reaches it; with WORDs only the functions whose names have one. --rows tells of each row how many functions it reaches. A
+function that nothing reaches fails. The last line is 'N passed, M failed'."""
 import collections
 import json
 import re
@@ -17,7 +18,8 @@ CRATES = TOP / "crates"
 sys.path.insert(0, str(TOP / "tests" / "rows"))
 import rows  # noqa: E402
 
-STATIC = "vdb_c"
+# the C library, the library tests, and the proved programs over the libraries
+TEXTS = ("crates/vdb_c/src/**/*.rt", "tests/library/**/*.txt", "crates/library_*/src/**/*.rt")
 COMMANDS = CRATES / "vdb_scene" / "src" / "carry_out.rt"
 STEP = "::Scene::carry_out"  # from here on, what is called depends on the command
 FUNCTION = re.compile(r'(    )?pub (?:const )?(?:extern "C" )?fn (\w+)')
@@ -104,20 +106,17 @@ def reached(calls, begin, without=""):
     return seen
 
 
-def tests():
-    """Returns the texts of the library tests and of the proved programs over the libraries by their names."""
-    files = [*(TOP / "tests" / "library").rglob("*.txt"), *CRATES.glob("library_*/src/**/*.rt")]
-    return {str(it.relative_to(TOP).with_suffix("")): it.read_text(encoding="utf-8") for it in sorted(files)}
-
-
 def is_called(text, crate, of, function):
-    """Returns whether a test uses a crate and calls a function of this name."""
+    """Returns whether a text uses a crate and calls a function of this name."""
     call = rf"\b{of}(::<.*?>)?::{function}\(|\.{function}\(" if of else rf"\b{function}(::<.*?>)?\("
     return re.search(rf"\b{crate}\b", text) and re.search(call, text)
 
 
-def called_in(text, public_of):
-    """Returns the public functions that a text calls."""
+def called_in(file, public_of):
+    """Returns the public functions that a module calls: by its text, in which `use super::*` stands for the `use` lines of the module above."""
+    text, above = file.read_text(encoding="utf-8"), file.parent.with_suffix(file.suffix)
+    if "\nuse super::*;" in text:
+        text += "".join(re.findall(r"^use .*\n", above.read_text(encoding="utf-8"), re.M))
     return [name for name, (crate, _, of, function) in public_of.items() if is_called(text, crate, of, function)]
 
 
@@ -128,25 +127,21 @@ def main():
     if not lists:
         sys.exit("called.py: there are no lists of calls: build the crates by .ci/run --proofs, with a kit that keeps them")
     public_of = {compiled_name(names, crate, *it): (crate, *it) for crate in lists for it in public(crate)}
-    main_text = (CRATES / "vdb" / "src" / "main.rt").read_text(encoding="utf-8")
-    session = reached(calls, called_in(main_text, public_of), STEP)
+    session = reached(calls, called_in(CRATES / "vdb" / "src" / "main.rt", public_of), STEP)
     scene = next(it for it in names if it.endswith(STEP)).rpartition("::")[0]
-    commands = {word.lower(): reached(calls, [f"{scene}::{method}"]) - session for word, method in COMMAND.findall(COMMANDS.read_text(encoding="utf-8"))}
-    folder = CRATES / STATIC / "src"
-    sources = {str(it.relative_to(folder).with_suffix("")): it.read_text(encoding="utf-8") for it in sorted(folder.rglob("*.rt"))}
-    by_c = {file: reached(calls, called_in(text, public_of)) for file, text in sources.items()}
-    texts, failed = tests(), 0
-    for name, (crate, _, of, function) in public_of.items():
-        by = ["each row"] * (name in session) + [word for word, found in commands.items() if name in found]
-        by += [f"C {file}" for file, found in by_c.items() if name in found]
-        by += [it for it, text in texts.items() if is_called(text, crate, of, function)]
-        failed += not by
-        if not by or not words or any(it in name for it in words):
-            print(f"{name}: {', '.join(by) or 'NOTHING reaches it'}")
+    by = {word.lower(): reached(calls, [f"{scene}::{method}"]) - session for word, method in COMMAND.findall(COMMANDS.read_text(encoding="utf-8"))}
+    for file in (it for pattern in TEXTS for it in sorted(TOP.glob(pattern))):
+        by[str(file.relative_to(TOP).with_suffix(""))] = reached(calls, called_in(file, public_of), STEP)
+    failed = 0
+    for name in public_of:
+        found = ["each row"] * (name in session) + [it for it, functions in by.items() if name in functions]
+        failed += not found
+        if not found or not words or any(it in name for it in words):
+            print(f"{name}: {', '.join(found) or 'NOTHING reaches it'}")
     if "--rows" in sys.argv:
         for row in (row for file in rows.DATA for row in rows.read(file)):
             played = {it.text.split()[0].decode("latin-1") for it in row.commands if it.answers and it.text.split()}
-            found = session.union(*(commands.get(it, set()) for it in played)) & public_of.keys()
+            found = session.union(*(by.get(it, ()) for it in played)) & public_of.keys()
             print(f"{row.file.name}: {row.name}: {len(found)} of {len(public_of)}")
     print(f"{len(public_of) - failed} passed, {failed} failed")
     sys.exit(failed > 0)
