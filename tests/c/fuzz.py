@@ -5,7 +5,8 @@
 LIBRARY is a libvdb.so with failing.c, as tests/c/test_libvdb.py builds it. Each call must return the code and the results that the
 map has (tests/fuzz/language.py). After a code other than 0 the cells are compared: they, and the results, must be as before. In two calls
 of each shape of arguments, and in one of a hundred others, each allocation fails in turn, up to 1,999. At last no memory may be
-held. The last lines name the calls that allocate, with the shapes of each, and say 'N calls, M failed allocations'.
+held. The last lines name the calls that allocate, with the shapes of each, and those that were never made, and say 'N calls, M failed
+allocations'.
 """
 from __future__ import annotations
 
@@ -391,7 +392,7 @@ class Session:
                         part[element] = int(cell)
             return [tuple(part or array) for part, array in zip(found, (values, states))]
 
-        return self.on_grid("vdb_grid_read_box", arguments, wrong, [slot], None, [values, states], results)
+        return self.on_readable("read_box", arguments, wrong, [values, states], results)
 
     def from_box(self):
         """A grid of the elements of a box of voxels, most of which are the background or another value."""
@@ -869,15 +870,17 @@ def main(words):
     calls, seed = (int(words[it]) if len(words) > it else otherwise for it, otherwise in ((1, 100_000), (2, 0)))
     header, began = Header(), time.process_time()
     library = header.load(words[0])
-    failures, allocating = 0, {}
+    failures, allocating, made = 0, {}, set()
     for cuts, part in ((VOXELS, calls // 2), (BORDERS, calls - calls // 2)):
         session = Session(library, header, cuts, random.Random(f"{seed} {len(cuts)}"))
         session.run(part)
         failures += session.failures
+        made |= {name for name, *_ in session.shapes}
         for name, shapes in session.allocating.items():
             allocating.setdefault(name, set()).update(shapes)
     print(f"{time.process_time() - began:.0f} seconds")
     print("allocating:", ", ".join(f"{name} {len(shapes)}" for name, shapes in sorted(allocating.items())))
+    print("never made:", ", ".join(sorted(header.calls.keys() - made)))
     print(f"{calls} calls, {failures} failed allocations")
 
 

@@ -433,10 +433,11 @@ class RandomCalls(unittest.TestCase):
         ran = run([with_numpy() or sys.executable, CHECKS / "fuzz.py", library, FUZZ_CALLS])
         print(ran.stdout, end="", flush=True)
         self.assertEqual((ran.returncode, ran.stderr), (0, ""))
-        found = re.match(r"(\d+) seconds\nallocating: (.*)\n(\d+) calls, (\d+) failed allocations\n\Z", ran.stdout)
-        self.assertEqual(int(found[3]), int(FUZZ_CALLS))
+        found = re.match(r"(\d+) seconds\nallocating: (.*)\nnever made: (.*)\n(\d+) calls, (\d+) failed allocations\n\Z", ran.stdout)
+        self.assertEqual({*found[3].split(", ")}, NOT_IN_PYTHON | {"vdb_scene_length"})  # which each check of the scene calls
+        self.assertEqual(int(found[4]), int(FUZZ_CALLS))
         self.assertLessEqual(int(found[1]), FUZZ_SECONDS)
-        self.assertGreater(int(found[4]), int(FUZZ_CALLS) // 100)
+        self.assertGreater(int(found[5]), int(FUZZ_CALLS) // 100)
         shapes = {name.removeprefix("vdb_"): int(count) for name, count in (it.split(" ") for it in found[2].split(", "))}
         self.assertEqual({*shapes} - ALLOCATING, set())
         self.assertEqual(ALLOCATING - {*shapes} - SELDOM, set())
