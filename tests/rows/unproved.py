@@ -5,9 +5,9 @@
 Without a FILE of rows it plays all of them.
 
 `rt try` builds the program with checks of overflow, bounds and memory, and runs it once for each row. It makes no use of a second processor,
-so the rows are shared out to as many calls as half the processors. A row that writes more than a scene file may have is left to the built
-program, since these checks make it take minutes. If all rows passed, and nothing that this depends on has changed since, the next run
-repeats their count. The last line is 'N passed, M failed'.
+so many rows are shared out to as many calls as half the processors, each of which compiles the program. A row that writes more than a scene
+file may have is left to the built program, since these checks make it take minutes. If all rows passed, and nothing that this depends on
+has changed since, the next run repeats their count. The last line is 'N passed, M failed'.
 """
 import concurrent.futures
 import hashlib
@@ -23,6 +23,8 @@ from rows import PATIENCE, TOP, Malformed, difference, files, read, words_of
 
 FILES = files()
 TOO_LONG = b"vdb: save: too-long\n"  # what a row left out prints
+#: the number of rows for which it is worth to compile the program once more
+WORTH = 60
 #: the sum of all that the last run depended on in which all rows passed
 PASSED = TOP / "out" / "unproved-rows"
 # what rt try prints of a case, which is a row's number: the answers, and in another stream standard error and the end
@@ -76,7 +78,7 @@ def main():
         print(f"kept from earlier runs: {len(rows)} of {len(rows)} unproved rows\n{len(rows)} passed, 0 failed")
         return
     print(*(f"left to the built program: {row.place}" for row in left), sep="\n", flush=True)
-    parts = max(1, len(os.sched_getaffinity(0)) // 2)
+    parts = max(1, min(len(os.sched_getaffinity(0)) // 2, len(rows) // WORTH))
     with tempfile.TemporaryDirectory() as folder, concurrent.futures.ThreadPoolExecutor(parts) as pool:
         places = [Path(folder, str(part)) for part in range(parts)]
         failed = [it for part in pool.map(played, [rows[part::parts] for part in range(parts)], places) for it in part if it]
