@@ -109,7 +109,7 @@ def reached(calls, begin, without=""):
 def is_called(text, crate, of, function):
     """Returns whether a text uses a crate and calls a function of this name."""
     call = rf"\b{of}(::<.*?>)?::{function}\(|\.{function}\(" if of else rf"\b{function}(::<.*?>)?\("
-    return re.search(rf"\b{crate}\b", text) and re.search(call, text)
+    return function in text and re.search(rf"\b{crate}\b", text) and re.search(call, text)
 
 
 def called_in(file, public_of):
