@@ -19,10 +19,12 @@ import sys
 import tempfile
 from pathlib import Path
 
-from rows import PATIENCE, TOP, Malformed, difference, files, read, words_of
+from rows import TOP, Malformed, difference, files, read, words_of
 
 FILES = files()
 TOO_LONG = b"vdb: save: too-long\n"  # what a row left out prints
+#: the most seconds of a row: some take a minute, and several on a machine with other work
+SECONDS = 1_200
 #: the number of rows for which it is worth to compile the program once more
 WORTH = 60
 #: the sum of all that the last run depended on in which all rows passed
@@ -41,7 +43,7 @@ def played(rows, folder):
         (cases / str(number)).write_bytes(row.script)  # standard input, and a file `case` in the program's folder
         words = words_of(row, "case" if number % 3 else "", folder / f"{number}.load", folder / f"{number}.saved")
         (cases / f"{number}.args").write_text("".join(f"{word}\n" for word in words))
-    words = ["rt", "try", "--seconds", str(PATIENCE), "--cases", str(cases)]
+    words = ["rt", "try", "--seconds", str(SECONDS), "--cases", str(cases)]
     ran = subprocess.run(words, cwd=TOP / "crates" / "vdb", stdin=subprocess.DEVNULL, capture_output=True)
     answers = {int(number): text for number, text in ANSWERS.findall(ran.stdout)}
     ends = {int(number): (errors, int(status)) for errors, number, status in END.findall(ran.stderr)}
