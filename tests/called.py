@@ -95,12 +95,12 @@ def graph(lists):
     return calls
 
 
-def reached(calls, begin, without=""):
-    """Returns what may be reached from some functions, without passing those whose names end so."""
+def reached(calls, begin):
+    """Returns what may be reached from some functions, other than by the step of a scene."""
     seen, left = set(), [*begin]
     while left:
         name = left.pop()
-        if name not in seen and not (without and name.endswith(without)):
+        if name not in seen and not name.endswith(STEP):
             seen.add(name)
             left += calls.get(name, ())
     return seen
@@ -127,11 +127,11 @@ def main():
     if not lists:
         sys.exit("called.py: there are no lists of calls: build the crates by .ci/run --proofs, with a kit that keeps them")
     public_of = {compiled_name(names, crate, *it): (crate, *it) for crate in lists for it in public(crate)}
-    session = reached(calls, called_in(CRATES / "vdb" / "src" / "main.rt", public_of), STEP)
+    session = reached(calls, called_in(CRATES / "vdb" / "src" / "main.rt", public_of))
     scene = next(it for it in names if it.endswith(STEP)).rpartition("::")[0]
     by = {word.lower(): reached(calls, [f"{scene}::{method}"]) - session for word, method in COMMAND.findall(COMMANDS.read_text(encoding="utf-8"))}
     for file in (it for pattern in TEXTS for it in sorted(TOP.glob(pattern))):
-        by[str(file.relative_to(TOP).with_suffix(""))] = reached(calls, called_in(file, public_of), STEP)
+        by[str(file.relative_to(TOP).with_suffix(""))] = reached(calls, called_in(file, public_of))
     failed = 0
     for name in public_of:
         found = ["each row"] * (name in session) + [it for it, functions in by.items() if name in functions]
