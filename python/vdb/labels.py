@@ -186,7 +186,7 @@ def touching(items: Items, span: int) -> "tuple[np.ndarray, np.ndarray]":
         same += (side - 1) * side**2 * np.bincount(items.tiles[items.sides == side], minlength=span)
     within = (contact for part in items.chunks() for contact in inside(items.cells[part], [(1, 0, 0), (0, 1, 0), (0, 0, 1)]))
     for step, one, other, each in chain(within, items.contacts(1, items.cells, items.tiles)):
-        axis, alike = [*map(abs, step)].index(1), one == other
+        axis, alike = [abs(it) for it in step].index(1), one == other
         same[axis] += each * np.bincount(one[alike], minlength=span)
         differ = ~alike & (one != 0) & (other != 0)
         one, other = one[differ].astype(np.int64), other[differ].astype(np.int64)
@@ -283,9 +283,9 @@ def edges_of(contacts: "Iterable[Contact]", cells: np.ndarray) -> np.ndarray:
     return np.stack(divmod(np.concatenate(codes), 2**32)).astype(np.int32)
 
 
-def ranked(edges: "Sequence[np.ndarray]", corners: np.ndarray) -> "tuple[np.ndarray, np.ndarray]":
+def ranked(edges: np.ndarray, corners: np.ndarray) -> "tuple[np.ndarray, np.ndarray]":
     """Returns the number of the component of each node of a graph, and the first voxel of each component (n x 3), by the first voxels of
-    nodes (m x 3), in whose order components are numbered from 1 on, and the two ends of edges."""
+    nodes (m x 3), in whose order components are numbered from 1 on, and the edges (2 x k)."""
     graph = package("scipy.sparse", "python3-scipy").coo_matrix((np.ones(len(edges[0]), np.int8), tuple(edges)), shape=(len(corners),) * 2)
     component = package("scipy.sparse.csgraph", "python3-scipy").connected_components(graph, directed=False)[1]
     order = np.lexsort(corners.T[::-1])

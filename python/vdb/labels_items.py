@@ -57,8 +57,8 @@ class Items:
                 leaves.append((part.origins[some], (number * part.active)[some]))
             else:
                 tiles.append((part.low, np.full(len(number), part.side), number))
-        self.lows, self.cells = map(np.concatenate, zip(*leaves))
-        self.corners, self.sides, self.tiles = map(np.concatenate, zip(*tiles))
+        self.lows, self.cells = (np.concatenate(column) for column in zip(*leaves))
+        self.corners, self.sides, self.tiles = (np.concatenate(column) for column in zip(*tiles))
         self.leaves = Places(self.lows, 8, np.arange(len(self.lows)))
         sets = ((side, np.flatnonzero(self.sides == side)) for side in SIDES)
         self.sets = [Places(self.corners[which], side, which) for side, which in sets if len(which)]
@@ -106,7 +106,8 @@ class Places:
 
     def find(self, corners: np.ndarray) -> "tuple[np.ndarray, np.ndarray]":
         """Returns which of these voxels (n x 3, int64) a cube holds, and the index of each of those cubes."""
-        at, rank = np.arange(len(corners) * bool(len(self.which))), np.int64(0)
+        at = np.arange(len(corners) * bool(len(self.which)))
+        rank = np.zeros(len(at), np.int64)
         for table, axis in zip(self.tables, (corners & -self.side).T):
             key = self.keys(rank, axis[at])
             rank = np.searchsorted(table, key).clip(max=len(table) - 1)
