@@ -39,11 +39,9 @@ class Folder(NamedTuple):
 
 def read_folder(path: str) -> "tuple[Folder, Dict[str, Any]]":
     """Returns a folder and what its index says. Raises FileError, or ChunksFault if the index has another form."""
-    with naming(os.path.join(path, INDEX)):
-        with open(os.path.join(path, INDEX), "rb") as file:
-            data = file.read()
+    with naming(os.path.join(path, INDEX)), open(os.path.join(path, INDEX), "rb") as file:
         try:
-            found = json.loads(data)
+            found = json.loads(file.read())
             if found["version"] != VERSION or not WRITTEN.match(found["folder"]):
                 raise RangeError(f"the version is {found['version']!r} and not {VERSION}, or {found['folder']!r} no name of a folder")
             rows = {check_coordinate(at): (int(count), box and check_bounds(box)) for at, count, box in found["chunks"]}

@@ -23,8 +23,8 @@ import numpy as np
 
 from . import label_names, labels as measured
 from .blocks import Labels, grouped, joined
-from .chunk_files import Folder, read_folder
-from .errors import DtypeError, MissingFileError, RangeError, VdbWarning
+from .chunk_files import INDEX, Folder, read_folder
+from .errors import DtypeError, RangeError, VdbWarning
 from .forms import KINDS, Array, Bounds, Coordinate, Metadata, Value, check_bounds, check_box, kind_of_array, narrowed
 from .grid import Grid
 from .image_view import dtype_of as image_dtype
@@ -84,14 +84,9 @@ class Chunks(Voxels):
         """Opens the volume in a folder, also one of scene files that version 1.1 wrote. Raises MissingFileError if there is none, and
         ChunksFault if it has another form."""
         self.folder = path_of(folder)
+        read: Any = read_folder if os.path.isfile(os.path.join(self.folder, INDEX)) else read_volume
         self._source: Source
-        try:
-            self._source, self._attributes = read_volume(self.folder)
-        except MissingFileError as error:
-            try:
-                self._source, self._attributes = read_folder(self.folder)
-            except MissingFileError:
-                raise error from None
+        self._source, self._attributes = read(self.folder)
         self._about = self._attributes["vdb"]
 
     @property
@@ -135,7 +130,7 @@ class Chunks(Voxels):
 
     def blocks(self) -> "list[Bounds]":
         """Returns the boxes of the blocks in which calls work, those that hold more than the background. Each is of whole chunks."""
-        return [check_bounds(box) for box in self._boxes()]
+        return [check_bounds(box) for box in blocks_of(self._source.form, [(self._source, 0)])]
 
     def grid(self, bounds: "Sequence[Sequence[int]]") -> Grid:
         """Returns the voxels of a box as a grid, or of what `select` made as a mask."""
@@ -144,11 +139,7 @@ class Chunks(Voxels):
     def map(self, call: "Callable[[Grid], Any]", halo: int = 0) -> "list[Any]":
         """Returns what a call of a grid returns for each of `blocks()`, in their order. The grid has the voxels of the block, and those up to
         `halo` voxels from it. `call` is pickled if processes work."""
-        return [*each(partial(mapped, call, self._source, halo), self._boxes())]
-
-    def _boxes(self) -> "list[Box]":
-        """Returns the boxes of the blocks that hold more than the background."""
-        return blocks_of(self._source.form, [(self._source, 0)])
+        return [*each(partial(mapped, call, self._source, halo), self.blocks())]
 
     def labels(self) -> Labels:
         """Returns the values of active voxels with their numbers and bounding boxes, as `Grid.labels` does."""
@@ -157,7 +148,7 @@ class Chunks(Voxels):
     def measure(self, spacing: "Sequence[float] | None" = None) -> measured.Measures:
         """Returns the measures of each label, as `vdb.labels.measure` does."""
         sizes = measured.spacing_of(self.metadata, spacing)
-        found = each(partial(tally_block, self._source), self._boxes())
+        found = each(partial(tally_block, self._source), self.blocks())
         return measured.measures(measured.merged([measured.tally(Grid(self.kind)), *found]), sizes)
 
     def components(self, folder: Path, connectivity: int = 6) -> "Chunks":
@@ -176,7 +167,7 @@ class Chunks(Voxels):
             pairs = np.concatenate([np.zeros((0, 2), np.int64), *each(partial(join_block, source, connectivity, parts), boxes)])
             counts = np.array([len(firsts) for _, firsts in found], np.int64)
             nodes = (np.cumsum(counts) - counts)[pairs >> 32] + (pairs & LOW_BITS) - 1
-            ranks, _ = measured.ranked([*nodes.T], np.concatenate([np.zeros((0, 3), np.int32), *(firsts for _, firsts in found)]))
+            ranks, _ = measured.ranked(nodes.T, np.concatenate([np.zeros((0, 3), np.int32), *(firsts for _, firsts in found)]))
             return each(partial(renumber_block, parts, target), boxes, np.split(ranks, np.cumsum(counts)))
 
         return written(folder, form, made.metadata, {}, compute)
@@ -414,7 +405,7 @@ def change_block(
 def low_sides(form: Form, box: Box, halo: int) -> "Iterator[tuple[int, Box]]":
     """Yields each axis along which another block may come before a block, and the box of the first plane of this one and the last of that one.
     Across that axis it goes up to `halo` voxels past the block."""
-    for axis in np.flatnonzero(box[0] > form.low):
+    for axis in np.flatnonzero(np.greater(box[0], form.low)):
         side = grown(box, halo)
         side[:, axis] = box[0][axis] - 1, box[0][axis]
         yield axis, side

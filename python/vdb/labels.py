@@ -13,22 +13,23 @@ of `spacing`, three sizes of a voxel, which are those of the grid's affine unles
 """
 from __future__ import annotations
 
-from itertools import product
+from itertools import chain, product
 from math import floor, prod
-from typing import TYPE_CHECKING, Iterator, Mapping, NamedTuple, Sequence
+from typing import TYPE_CHECKING, Iterable, Iterator, Mapping, NamedTuple, Sequence
 
 import numpy as np
 
 from . import images
 from .arrays import fill_boxes, new_grid, write_box
-from .blocks import OFFSETS, Cubes, Labels, Rows, first_of, grouped, joined, places, words_of
+from .blocks import OFFSETS, Cubes, Labels, grouped, joined
+from .blocks import numbered as voxels_at
 from .edits import fill_active, strips, write_cubes, write_leaves
 from .engine import Stored
 from .errors import RangeError
 from .formats.volume import package
 from .forms import COORDINATE_SPAN, SIDES
 from .grid import Grid
-from .labels_items import Items, steps_of
+from .labels_items import Contact, Items, inside, steps_of
 from .mask import Mask
 from .reading import Walkable
 
@@ -167,14 +168,13 @@ def sums_of(items: Items, labels: Labels) -> np.ndarray:
     # past the origin, by Python's integers only if 64 bits are too few
     sums = np.zeros((3, count), np.int64 if 2 * widest * int(labels.counts.sum()) < 2**63 else object)
     for part in items.chunks():
-        cells, offsets = items.cells[part].ravel(), items.lows[0][part].astype(np.int64) - origin
+        cells, offsets = items.cells[part].ravel(), items.lows[part].astype(np.int64) - origin
         for axis in range(3):
             at = offsets[:, axis, None] + OFFSETS[:, axis]
             sums[axis] += 2 * np.bincount(cells, at.ravel(), count).astype(np.int64)
-    for side, corners, cells in zip(SIDES, items.lows[1:], items.tiles):
-        for axis in range(3):
-            at = 2 * (corners[:, axis].astype(np.int64) - origin[axis]) + side - 1
-            np.add.at(sums[axis], cells, at.astype(sums.dtype) * side**3)
+    middles = 2 * (items.corners - origin) + (items.sides - 1)[:, None]
+    for axis in range(3):
+        np.add.at(sums[axis], items.tiles, middles[:, axis].astype(sums.dtype) * items.sides**3)
     return sums.T[1:].astype(object) + 2 * labels.counts.astype(object)[:, None] * origin.astype(object)
 
 
@@ -182,25 +182,16 @@ def touching(items: Items, span: int) -> "tuple[np.ndarray, np.ndarray]":
     """Returns the pairs of cells that touch as numbers, the lesser cell times the span and the other one, and how many faces along each axis
     (n x 3) lie between them."""
     same, found = np.zeros((3, span), np.int64), [(np.zeros(0, np.int64),) * 2]
-
-    def add(axis: int, one: np.ndarray, other: np.ndarray, each: int = 1) -> None:
-        alike = one == other
+    for side in SIDES:
+        same += (side - 1) * side**2 * np.bincount(items.tiles[items.sides == side], minlength=span)
+    within = (contact for part in items.chunks() for contact in inside(items.cells[part], [(1, 0, 0), (0, 1, 0), (0, 0, 1)]))
+    for step, one, other, each in chain(within, items.contacts(1, items.cells, items.tiles)):
+        axis, alike = [abs(it) for it in step].index(1), one == other
         same[axis] += each * np.bincount(one[alike], minlength=span)
         differ = ~alike & (one != 0) & (other != 0)
         one, other = one[differ].astype(np.int64), other[differ].astype(np.int64)
         codes, counts = tallied(np.minimum(one, other) * span + np.maximum(one, other), span**2)
         found.append((3 * codes + axis, counts * each))
-
-    for part in items.chunks():
-        cells = items.cells[part].reshape(-1, 8, 8, 8)
-        for axis in range(3):
-            turned = np.moveaxis(cells, axis + 1, 0)
-            add(axis, turned[:-1], turned[1:])
-    for side, tiles in zip(SIDES, items.tiles):
-        same += (side - 1) * side**2 * np.bincount(tiles, minlength=span)
-    for contact in items.contacts(1):
-        for one, other in items.meeting(contact, 1, items.cells, items.tiles):
-            add([abs(it) for it in contact.step].index(1), one, other, SIDES[contact.one - 1] ** 2 if contact.one else 1)
     found += [(3 * (span + 1) * np.arange(1, span) + axis, same[axis, 1:]) for axis in range(3)]
     codes, counts = (np.concatenate(column) for column in zip(*found))
     code, which = np.unique(codes[counts > 0] // 3, return_inverse=True)
@@ -238,68 +229,63 @@ def numbered(grid: Walkable, connectivity: int) -> "tuple[Grid, np.ndarray]":
     """Returns the components of a grid, and the first voxel of each (n x 3)."""
     if connectivity not in ORDERS:
         raise RangeError(f"the connectivity is 6, 18 or 26, not {connectivity!r}")
-    values = np.array([False, True]) if grid.kind == "bool" else grid.labels().values
-    items = Items(grid, values)
-    nodes = Nodes(items, ORDERS[connectivity])
-    numbers, firsts = ranked([np.concatenate(ends) for ends in zip(*nodes.edges)], nodes.corners)
+    items = Items(grid, np.array([False, True]) if grid.kind == "bool" else grid.labels().values)
+    leaves, first = leaf_nodes(items, ORDERS[connectivity])
+    tiles = np.arange(len(first) + 1, len(first) + len(items.tiles) + 1, dtype=np.int32)
+    cells = np.concatenate([items.cells.ravel()[first], items.tiles])
+    edges = edges_of(items.contacts(ORDERS[connectivity], leaves, tiles), cells)
+    numbers, firsts = ranked(edges, np.concatenate([voxels_at(items.lows, first), items.corners]))
     numbers = np.concatenate([[0], numbers])  # those of inactive voxels, and of nodes from 1 on
     made = Grid("i32", limit=grid.limit, metadata=images.kept(grid.metadata, np.dtype(np.int32)))  # type: ignore[attr-defined]
-    whole = nodes.whole if isinstance(grid, Stored) else np.zeros(len(items.cells), np.bool_)
+    small, whole = items.sides == SIDES[0], (np.bincount(first >> 9, minlength=len(leaves)) == 1) & isinstance(grid, Stored)
     if whole.any():
-        low, node = np.concatenate([items.lows[0][whole], items.lows[1]]), np.concatenate([nodes.leaves[whole].max(axis=1), nodes.tiles[0]])
+        low, node = np.concatenate([items.lows[whole], items.corners[small]]), np.concatenate([leaves[whole].max(axis=1), tiles[small]])
         fill_active(made._held, new_grid(made._kind, 0, made.limit), grid._handle(), Cubes(low, 8, numbers[node]))  # type: ignore[attr-defined]
     for part in items.chunks():
-        found = numbers[nodes.leaves[part][~whole[part]]]
-        write_leaves(made._held, items.lows[0][part][~whole[part]], found, found != 0)
-    for side, low, tiles in [*zip(SIDES, items.lows[1:], nodes.tiles)][int(whole.any()) :]:
-        write_cubes(made._held, Cubes(low, side, numbers[tiles]))
+        found = numbers[leaves[part][~whole[part]]]
+        write_leaves(made._held, items.lows[part][~whole[part]], found, found != 0)
+    for side in SIDES[int(whole.any()) :]:
+        write_cubes(made._held, Cubes(items.corners[items.sides == side], side, numbers[tiles[items.sides == side]]))
     made.prune()
     return made, firsts
 
 
-class Nodes:
-    """The nodes of a graph of components, and its edges: connected voxels of one cell of a leaf, and tiles. `leaves` (n x 512) and `tiles` have
-    the nodes of items from 1 on, 0 for inactive voxels, and `whole` says which leaves have only one."""
+def leaf_nodes(items: Items, order: int) -> "tuple[np.ndarray, np.ndarray]":
+    """Returns the nodes of the voxels of leaves (n x 512) in a graph of components, from 1 on, and the number of the first voxel of each. A node
+    is connected voxels of one cell in a leaf; inactive voxels have 0."""
+    nodes, firsts, count = np.empty(items.cells.shape, np.int32), [np.zeros(0, np.int64)], 1
+    for part in items.chunks():
+        rows = items.cells[part].reshape(-1, 8)
+        begins = rows != 0  # runs along z, which the other steps join
+        begins[:, 1:] &= rows[:, 1:] != rows[:, :-1]
+        begin = np.flatnonzero(begins)
+        runs = (np.cumsum(begins, dtype=np.int32).reshape(-1, 8) * (rows != 0)).reshape(-1, 512)
+        contacts = inside(runs, [step for step in steps_of(order) if step > (0, 0, 1)])
+        numbers, first = ranked(edges_of(contacts, rows.ravel()[begin]), begin[:, None])
+        nodes[part] = np.append(0, numbers + count - 1)[runs]
+        firsts.append(first[:, 0] + 512 * part.start)
+        count += len(first)
+    return nodes, np.concatenate(firsts)
 
-    def __init__(self, items: Items, order: int) -> None:
-        self.leaves, self.whole, none = np.empty(items.cells.shape, np.int32), np.zeros(len(items.cells), np.bool_), np.zeros(0, np.int32)
-        self.edges, self.count = [(none, none)], 1
-        cells, corners = [np.zeros(1, items.cells.dtype)], [np.zeros((0, 3), np.int32)]
-        for part in items.chunks():
-            some, low = items.cells[part], items.lows[0][part]
-            cell, words = some.max(axis=1), words_of(some != 0)
-            whole = self.whole[part] = ((some == cell[:, None]) | (some == 0)).all(axis=1) & is_joined(words)
-            self.leaves[part][whole] = (some[whole] != 0) * self.more(np.count_nonzero(whole))[:, None]
-            number = first_voxels(some[~whole], order)
-            root = (number == np.arange(512)) & (some[~whole] != 0)
-            rank = np.cumsum(root, dtype=np.int32).reshape(root.shape) + np.int32(self.count - 1)
-            self.leaves[part][~whole] = np.take_along_axis(rank, number, axis=1) * (some[~whole] != 0)
-            self.more(np.count_nonzero(root))
-            cells += [cell[whole], some[~whole][root]]
-            corners += [low[whole] + OFFSETS[first_of(words[whole])], places(low[~whole], root)]
-        self.tiles = [self.more(len(tiles)) for tiles in items.tiles]
-        self.cells, self.corners = np.concatenate([*cells, *items.tiles]), np.concatenate([*corners, *items.lows[1:]])
-        for contact in items.contacts(order):
-            for pair in items.meeting(contact, order, self.leaves, self.tiles):
-                self.join(*pair)
 
-    def more(self, count: int) -> np.ndarray:
-        """Returns the numbers of this many new nodes."""
-        self.count += count
-        return np.arange(self.count - count, self.count, dtype=np.int32)
+def edges_of(contacts: "Iterable[Contact]", cells: np.ndarray) -> np.ndarray:
+    """Returns the edges (2 x n) between nodes that touch and have the same cell. In contacts nodes are numbered from 1 on, in `cells` and edges
+    from 0."""
+    codes = [np.zeros(0, np.int64)]
+    for _, one, other, _ in contacts:
+        new = (one[1:] != one[:-1]) | (other[1:] != other[:-1])  # most are as the one before
+        at = np.append(0, np.flatnonzero(new) + 1)[: len(one)]
+        one, other = one[at], other[at]
+        both = (one != other) & (one != 0) & (other != 0)
+        one, other = one[both] - 1, other[both] - 1
+        same = cells[one] == cells[other]
+        codes.append(np.unique(one[same].astype(np.int64) << 32 | other[same]))
+    return np.stack(divmod(np.concatenate(codes), 2**32)).astype(np.int32)
 
-    def join(self, one: np.ndarray, other: np.ndarray) -> None:
-        """Adds edges between nodes of one cell."""
-        one, other = one.ravel(), other.ravel()
-        new = (one > 0) & (other > 0)
-        new[1:] &= (one[1:] != one[:-1]) | (other[1:] != other[:-1])
-        one, other = one[new], other[new]
-        same = self.cells[one] == self.cells[other]
-        self.edges.append((one[same] - 1, other[same] - 1))
 
-def ranked(edges: "Sequence[np.ndarray]", corners: np.ndarray) -> "tuple[np.ndarray, np.ndarray]":
+def ranked(edges: np.ndarray, corners: np.ndarray) -> "tuple[np.ndarray, np.ndarray]":
     """Returns the number of the component of each node of a graph, and the first voxel of each component (n x 3), by the first voxels of
-    nodes (m x 3), in whose order components are numbered from 1 on, and the two ends of edges."""
+    nodes (m x 3), in whose order components are numbered from 1 on, and the edges (2 x k)."""
     graph = package("scipy.sparse", "python3-scipy").coo_matrix((np.ones(len(edges[0]), np.int8), tuple(edges)), shape=(len(corners),) * 2)
     component = package("scipy.sparse.csgraph", "python3-scipy").connected_components(graph, directed=False)[1]
     order = np.lexsort(corners.T[::-1])
@@ -308,47 +294,6 @@ def ranked(edges: "Sequence[np.ndarray]", corners: np.ndarray) -> "tuple[np.ndar
     ranks = np.zeros(len(index), np.int64)
     ranks[component[firsts]] = np.arange(1, len(index) + 1)
     return ranks[component], corners[firsts]
-
-
-def is_joined(words: np.ndarray) -> np.ndarray:
-    """Returns of which leaves (n x 8, words as `words_of` has them) the marked voxels are one component by faces, or False if that takes long
-    to find. Each has one."""
-    every, found = np.ascontiguousarray(words.T), np.zeros(words.shape[::-1], np.uint64)
-    at = (every != 0).argmax(axis=0), np.arange(len(words))
-    found[at] = every[at] & (~every[at] + np.uint64(1))
-    ways = [(np.uint64(by), np.uint64(mask)) for by, mask in ((8, 2**64 - 1), (1, 2**64 // 255 * 254))]
-    for _ in range(24):
-        before = found.copy()
-        for by, mask in ways:
-            found |= ((found << by & mask) | ((found & mask) >> by)) & every
-        for x, near in (*zip(range(1, 8), range(7)), *zip(range(6, -1, -1), range(7, 0, -1))):
-            found[x] |= found[near] & every[x]
-        if np.array_equal(before, found):
-            break
-    return (found == every).all(axis=0)
-
-
-def first_voxels(cells: np.ndarray, order: int) -> np.ndarray:
-    """Returns of each voxel of leaves (n x 512) the least number of a voxel of its component in the leaf. Numbers pass from voxel to voxel
-    of one cell, to and fro along each axis, until none falls."""
-    cube = np.ascontiguousarray(cells.T).reshape(8, 8, 8, -1)
-    number = np.empty(cube.shape, np.int16)
-    number[...] = np.arange(512, dtype=np.int16).reshape(8, 8, 8, 1)
-    moves = []
-    for step in steps_of(order):
-        if step > (0, 0, 0):
-            past, first = (tuple(slice(max(0, by), 8 + min(0, by)) for by in way) for way in (step, [-by for by in step]))
-            wall = (cube[first] != cube[past]) * np.int16(512)  # a number with this bit is greater than any without
-            pairs = [(number[first], number[past], wall)]
-            if step.count(0) == 2:
-                pairs = [*zip(*(np.moveaxis(it, step.index(1), 0) for it in pairs[0]))]
-            moves += [*pairs, *((other, one, between) for one, other, between in reversed(pairs))]
-    before = np.zeros(0, np.int16)
-    while not np.array_equal(before, number):
-        before = number.copy()
-        for one, other, between in moves:
-            np.minimum(other, one | between, out=other)
-    return np.ascontiguousarray(number.reshape(512, -1).T)
 
 
 def changed(mask: Mask, names: Sequence[str], iterations: int) -> Mask:
@@ -433,12 +378,10 @@ def margin(mask: Grid, distance: float, spacing: "Sequence[float] | None" = None
         raise RangeError(f"the margin of {bounds[0]} to {bounds[1]} goes past 32 bits")
     source, bricks = made.copy(), [np.zeros((0, 3), np.int64)]
     for part in source._parts():
-        if isinstance(part, Rows):
-            bricks.append(np.unique(part.origins[part.active.any(axis=1)].astype(np.int64) // BRICK, axis=0))
-        elif part.side == SIDES[0]:
-            bricks.append(np.unique(part.low.astype(np.int64) // BRICK, axis=0))
-        else:
+        if isinstance(part, Cubes) and part.side > SIDES[0]:
             grow_tiles(made, part, reach)
+        else:
+            bricks.append(np.unique(part[0].astype(np.int64) // BRICK, axis=0))
     near = np.array([*product(*(range(-count, count + 1) for count in -(-wide // BRICK)))])
     own = np.unique(np.concatenate(bricks), axis=0)
     for brick in np.unique((own[:, None] + near).reshape(-1, 3), axis=0) * BRICK:

@@ -3,17 +3,21 @@
 from __future__ import annotations
 
 from itertools import product
-from typing import Iterator, NamedTuple, Sequence, Tuple, Union
+from typing import Iterator, Sequence, Tuple
 
 import numpy as np
 
-from .blocks import Rows, ranks
+from .blocks import OFFSETS, Rows, ranks
 from .forms import SIDES
 from .reading import Walkable
 
 #: How many leaves are worked on at a time.
 CHUNK = 1024
+#: Of the block before a leaf along an axis, the leaf, and the block after it: where its voxels lie around the leaf, and in the block.
+HALO = {-1: (slice(0, 1), slice(7, 8)), 0: (slice(1, 9), slice(0, 8)), 1: (slice(9, 10), slice(0, 1))}
 Step = Tuple[int, int, int]
+#: What touches by a step: the step, two arrays, and over how many faces each two touch.
+Contact = Tuple[Step, np.ndarray, np.ndarray, int]
 
 
 def steps_of(order: int) -> "list[Step]":
@@ -21,121 +25,92 @@ def steps_of(order: int) -> "list[Step]":
     return [(x, y, z) for x, y, z in product((-1, 0, 1), repeat=3) if 0 < abs(x) + abs(y) + abs(z) <= order]
 
 
-class Contact(NamedTuple):
-    """Items that touch: the step from the first ones to the second ones, the sets in which they are, and their indices there."""
+def inside(leaves: np.ndarray, steps: "Sequence[Step]") -> "Iterator[Contact]":
+    """Yields what voxels of leaves have (n x 512) and what those a step away in the same leaf have."""
+    for step in steps:
+        one, other = (tuple(slice(max(0, by), 8 + min(0, by)) for by in way) for way in ([-by for by in step], step))
+        cubes = leaves.reshape(-1, 8, 8, 8)
+        yield step, cubes[(slice(None), *one)].ravel(), cubes[(slice(None), *other)].ravel(), 1
 
-    step: Step
-    one: int
-    first: np.ndarray
-    other: int
-    second: np.ndarray
+
+def across(leaves: np.ndarray, wide: np.ndarray, steps: "Sequence[Step]") -> "Iterator[Contact]":
+    """Yields what voxels of leaves have (n x 512) and what those a step away outside the leaf have, of leaves and a voxel around them (n x 10 x
+    10 x 10)."""
+    for step in steps:
+        at = OFFSETS + step
+        out = np.flatnonzero((at & -8).any(axis=1))
+        yield step, leaves[:, out].ravel(), wide.reshape(-1, 1000)[:, (at[out] + 1) @ (100, 10, 1)].ravel(), 1
 
 
 class Items:
-    """The leaves and the active tiles of a grid: least corners of leaves, and of tiles of 8, 128 and 4,096 voxels along each axis, four
-    arrays (n x 3, int32) with the sides `sides`. Set 0 are the leaves, whose voxels `cells` has (n x 512). `tiles` has the cell of each
-    tile of the other three. A cell is 0 for an inactive voxel, else 1 + the index of its value among rising values."""
-
-    sides = (8, *SIDES)
+    """The leaves and the active tiles of a grid: least corners of leaves (n x 3, int32), and of tiles (m x 3) with their sides (m). `cells` has
+    the cells of the voxels of leaves (n x 512), and `tiles` those of tiles (m). A cell is 0 for an inactive voxel, else 1 + the index of its value
+    among rising values."""
 
     def __init__(self, grid: Walkable, values: np.ndarray) -> None:
-        among, dtype = values.astype(np.int64), np.min_scalar_type(len(values))
-        lows = [[np.zeros((0, 3), np.int32)] for _ in self.sides]
-        cells = [[np.zeros((0, 512) if side is None else 0, dtype)] for side in (None, *SIDES)]
+        among, dtype, none = values.astype(np.int64), np.min_scalar_type(len(values)), np.zeros((0, 3), np.int32)
+        leaves, tiles = [(none, np.zeros((0, 512), dtype))], [(none, np.zeros(0, np.int64), np.zeros(0, dtype))]
         for part in grid._parts() if len(values) else ():
             number = (ranks(part.values.astype(np.int64, copy=False), among) + 1).astype(dtype)
             if isinstance(part, Rows):
                 some = part.active.any(axis=1)
-                lows[0].append(part.origins[some])
-                cells[0].append((number * part.active)[some])
+                leaves.append((part.origins[some], (number * part.active)[some]))
             else:
-                at = 1 + SIDES.index(part.side)
-                lows[at].append(part.low)
-                cells[at].append(number)
-        self.lows = [np.concatenate(low) for low in lows]
-        self.cells, *self.tiles = (np.concatenate(cell) for cell in cells)
-        roots = np.unique(np.concatenate([rooted(low.astype(np.int64)) for low in self.lows]))
-        self.places = [Places(low, side, roots) if len(low) else None for low, side in zip(self.lows, self.sides)]
+                tiles.append((part.low, np.full(len(number), part.side), number))
+        self.lows, self.cells = (np.concatenate(column) for column in zip(*leaves))
+        self.corners, self.sides, self.tiles = (np.concatenate(column) for column in zip(*tiles))
+        self.leaves = Places(self.lows, 8, np.arange(len(self.lows)))
+        sets = ((side, np.flatnonzero(self.sides == side)) for side in SIDES)
+        self.sets = [Places(self.corners[which], side, which) for side, which in sets if len(which)]
 
     def chunks(self) -> "Iterator[slice]":
         """Yields slices of the leaves."""
         return (slice(first, first + CHUNK) for first in range(0, len(self.cells), CHUNK))
 
-    def contacts(self, order: int) -> "Iterator[Contact]":
-        """Yields each contact of two items once, by a step that changes at most `order` coordinates, from the smaller item to the larger."""
-        for one, (low, side) in enumerate(zip(self.lows, self.sides)):
-            for begin, step in product(range(0, len(low), CHUNK), steps_of(order)):
-                corners = low[begin : begin + CHUNK] + np.array(step, np.int64) * side
-                left = np.arange(len(corners))
-                for other in range(one + (step < (0, 0, 0)), len(self.sides)):  # each two of a set once
-                    place = self.places[other]
-                    if place is None or not len(left):
-                        continue
-                    at = place.find(corners[left])
-                    found = at >= 0
-                    if found.any():
-                        yield Contact(step, one, left[found] + begin, other, at[found])
-                    left = left[~found]
-
-    def meeting(
-        self, contact: Contact, order: int, leaves: np.ndarray, tiles: "Sequence[np.ndarray]"
-    ) -> "Iterator[tuple[np.ndarray, np.ndarray]]":
-        """Yields what items that touch have (two arrays of one shape) where they do, by steps that change at most `order` coordinates, of what
-        voxels of leaves have (n x 512), and tiles."""
-        step, one, first, other, second = contact
-        if other == 0:
-            for shift in product(*((0,) if it else (-1, 0, 1) for it in step)):
-                if 6 - step.count(0) - shift.count(0) <= order:
-                    ends = zip(shift, towards(step), towards((-step[0], -step[1], -step[2])))
-                    sides = ((slice(max(0, -by), 8 - max(0, by)), slice(max(0, by), 8 + min(0, by))) if by else (a, b) for by, a, b in ends)
-                    here, there = zip(*sides)
-                    yield slab(leaves, first, here), slab(leaves, second, there)
-        elif one == 0:
-            near = slab(leaves, first, towards(step))
-            yield near, np.broadcast_to(tiles[other - 1][second][:, None], near.shape)
-        else:
-            yield tiles[one - 1][first], tiles[other - 1][second]
-
-
-def rooted(corners: np.ndarray) -> np.ndarray:
-    """Returns the root blocks of corners (n x 3, int64) as numbers."""
-    x, y, z = ((corners >> 12) + (1 << 20)).T
-    return x << 42 | y << 21 | z
+    def contacts(self, order: int, leaves: np.ndarray, tiles: np.ndarray) -> "Iterator[Contact]":
+        """Yields what voxels of different leaves (n x 512) and tiles (m) have where they touch by a step that changes at most `order` coordinates,
+        each two once. A voxel also meets 0 where nothing is."""
+        steps, cubes = steps_of(order), leaves.reshape(-1, 8, 8, 8)
+        for part in self.chunks():
+            wide, large = np.zeros((2, len(cubes[part]), 10, 10, 10), leaves.dtype)
+            for step in steps:
+                here, there = zip(*(HALO[by] for by in step))
+                near = self.lows[part] + 8 * np.array(step, np.int64)
+                found, at = self.leaves.find(near)
+                wide[(found, *here)] = cubes[(at, *there)]
+                for places in self.sets:
+                    found, at = places.find(near)
+                    wide[(found, *here)] = large[(found, *here)] = tiles[at].reshape(-1, 1, 1, 1)
+            yield from across(leaves[part], wide, steps[len(steps) // 2 :])
+            some = large.any(axis=(1, 2, 3))  # what comes before a voxel yields it, but for tiles
+            yield from across(leaves[part][some], large[some], steps[: len(steps) // 2])
+        for (one, other), step in product(product(self.sets, repeat=2), steps):
+            if one.side < other.side or (one is other and step > (0, 0, 0)):
+                found, at = other.find(self.corners[one.which] + one.side * np.array(step, np.int64))
+                yield step, tiles[one.which[found]], tiles[at], one.side**2
 
 
 class Places:
-    """Finds the indices of cubes by voxels in them. All cubes lie in these root blocks, whose numbers rise."""
+    """Finds cubes of a side by voxels in them. `which` are their indices among others."""
 
-    def __init__(self, low: np.ndarray, side: int, roots: np.ndarray) -> None:
-        self.side, self.roots = side, roots
-        keys = self.keys(low.astype(np.int64))
-        self.order = np.argsort(keys, kind="stable")
-        self.sorted = keys[self.order]
+    def __init__(self, low: np.ndarray, side: int, which: np.ndarray) -> None:
+        self.side, self.which, self.tables, rank = side, which, [], np.zeros(len(low), np.int64)
+        for axis in low.T:
+            table, index, rank = np.unique(self.keys(rank, axis), return_index=True, return_inverse=True)
+            self.tables.append(table)
+        self.found = which[index]
 
-    def keys(self, corners: np.ndarray) -> np.ndarray:
-        """Returns the keys of least corners, -1 for those in no root block."""
-        number = rooted(corners)
-        at = np.searchsorted(self.roots, number)
-        at[at == len(self.roots)] = 0
-        x, y, z = (corners >> 3 & 511).T
-        return np.where(self.roots[at] == number, at << 27 | x << 18 | y << 9 | z, -1)
+    def keys(self, rank: np.ndarray, axis: np.ndarray) -> np.ndarray:
+        """Returns numbers of the rank by the axes before and the coordinate along this one, which may lie a cube past 32 bits."""
+        return (rank << 33) + axis + 2**32
 
-    def find(self, corners: np.ndarray) -> np.ndarray:
-        """Returns the indices of the cubes that hold these voxels (n x 3, int64), -1 for none."""
-        keys = self.keys(corners & -self.side)
-        at = np.searchsorted(self.sorted, keys)
-        at[at == len(self.sorted)] = 0
-        return np.where(self.sorted[at] == keys, self.order[at], -1)
-
-
-Index = Union[int, slice]
-
-
-def slab(cells: np.ndarray, leaves: np.ndarray, index: "Sequence[Index]") -> np.ndarray:
-    """Returns the cells (n x m) of leaves at an index of their voxels."""
-    return cells.reshape(-1, 8, 8, 8)[(leaves, *index)].reshape(len(leaves), -1)
-
-
-def towards(step: Step) -> "list[Index]":
-    """Returns the index of the voxels of a leaf at the end of a step: a side, an edge or a corner."""
-    return [slice(None) if it == 0 else 7 if it > 0 else 0 for it in step]
+    def find(self, corners: np.ndarray) -> "tuple[np.ndarray, np.ndarray]":
+        """Returns which of these voxels (n x 3, int64) a cube holds, and the index of each of those cubes."""
+        at = np.arange(len(corners) * bool(len(self.which)))
+        rank = np.zeros(len(at), np.int64)
+        for table, axis in zip(self.tables, (corners & -self.side).T):
+            key = self.keys(rank, axis[at])
+            rank = np.searchsorted(table, key).clip(max=len(table) - 1)
+            same = table[rank] == key
+            at, rank = at[same], rank[same]
+        return at, self.found[rank]
