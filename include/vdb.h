@@ -159,7 +159,7 @@ enum {
     VDB_ROOT_LIMIT = 3, /* the grid would need more root blocks than its root limit */
     VDB_RANGE = 4, /* an argument is out of range */
     VDB_SUM_RANGE = 5, /* a sum is outside the type of the grid's values */
-    VDB_KINDS = 6, /* the two grids have values of different types */
+    VDB_KINDS = 6, /* the two grids, or the grid and an array, have values of different types */
     VDB_NO_SUM = 7, /* booleans have no sum */
     VDB_NO_GRID = 8, /* the scene has no such grid */
     VDB_NAME = 9, /* the bytes are no name */
@@ -373,6 +373,13 @@ VDB_CODE vdb_grid_write_many(vdb_grid *grid, int32_t accessor, const vdb_coord *
 VDB_CODE vdb_grid_read_box(vdb_grid *grid, const vdb_box *box, const vdb_strides *strides, int64_t *values, size_t values_len,
                            uint8_t *states, size_t states_len);
 
+/* Copies the value, in its own type, and the state of each voxel of a box to its element, as vdb_grid_read_box does: of a grid of booleans,
+ * 1 for true and 0 for false, or of numbers of 32 bits. VDB_RANGE, as there. VDB_KINDS: the grid's values have another type. */
+VDB_CODE vdb_grid_read_box_bool(vdb_grid *grid, const vdb_box *box, const vdb_strides *strides, uint8_t *values, size_t values_len,
+                                uint8_t *states, size_t states_len);
+VDB_CODE vdb_grid_read_box_i32(vdb_grid *grid, const vdb_box *box, const vdb_strides *strides, int32_t *values, size_t values_len,
+                               uint8_t *states, size_t states_len);
+
 /* Sets each voxel of a box to the value and the state of its element, by x, then y, then z, through an accessor or without one. A box
  * of at least 8 voxels along each axis takes the least time: it is written leaf by leaf.
  * VDB_RANGE: no such accessor, corners out of order, or strides whose axes aren't nested; an array that is neither of length 0 nor
@@ -412,12 +419,16 @@ VDB_NONNULL void vdb_view_free(vdb_view *view);
 /* Returns the value and the state of a voxel, from the root. */
 VDB_CODE vdb_view_get(vdb_view *view, int32_t x, int32_t y, int32_t z, int64_t *value, int32_t *active);
 
-/* Copies the values and the states of many voxels, or of a box, to arrays, as vdb_grid_get_many and vdb_grid_read_box do, with the same
- * codes. */
+/* Copies the values and the states of many voxels, or of a box, to arrays, as vdb_grid_get_many and the calls vdb_grid_read_box do, with
+ * the same codes. */
 VDB_CODE vdb_view_get_many(vdb_view *view, const vdb_coord *at, size_t count, int64_t *values, size_t values_len, uint8_t *states,
                            size_t states_len);
 VDB_CODE vdb_view_read_box(vdb_view *view, const vdb_box *box, const vdb_strides *strides, int64_t *values, size_t values_len,
                            uint8_t *states, size_t states_len);
+VDB_CODE vdb_view_read_box_bool(vdb_view *view, const vdb_box *box, const vdb_strides *strides, uint8_t *values, size_t values_len,
+                                uint8_t *states, size_t states_len);
+VDB_CODE vdb_view_read_box_i32(vdb_view *view, const vdb_box *box, const vdb_strides *strides, int32_t *values, size_t values_len,
+                               uint8_t *states, size_t states_len);
 
 /* Returns what the call of the same name for a grid returns, with the same codes. */
 VDB_CODE vdb_view_kind(vdb_view *view, int32_t *kind);

@@ -26,7 +26,7 @@ import language  # noqa: E402
 from cells import HIGH, LOW, lengths, volume  # noqa: E402
 from language import CALLS, KINDS, SPANS  # noqa: E402
 
-OK, EMPTY, MEMORY, ROOT_LIMIT, RANGE = 0, 1, 2, 3, 4
+OK, EMPTY, MEMORY, ROOT_LIMIT, RANGE, OTHER_KIND = 0, 1, 2, 3, 4, 6
 #: The types of the elements of arrays, by the type of a grid.
 ELEMENTS = {"bool": c_uint8, "i32": c_int32, "i64": c_int64}
 ERRORS = {"root-limit": ROOT_LIMIT, "sum-range": 5, "kind": 6, "no-sum": 7}
@@ -400,7 +400,14 @@ class Session:
                         part[element] = int(cell)
             return [tuple(part or array) for part, array in zip(found, (values, states))]
 
-        return self.on_grid("vdb_grid_read_box", arguments, wrong, [slot], None, [values, states], results)
+        grid = self.maps[slot]
+        kind = self.chance.choice(["bool", "i32"] if grid is None or self.rarely() else ["i64", grid.kind])
+        if kind == "i64":  # the call for grids of any type
+            return self.on_grid("vdb_grid_read_box", arguments, wrong, [slot], None, [values, states], results)
+        arguments[2] = values = (ELEMENTS[kind] * max(1, lengths[0]))()
+        step = self.on_grid(f"vdb_grid_read_box_{kind}", arguments, wrong, [slot], None, [values, states], results)
+        step.refusals |= {OTHER_KIND} if grid is not None and grid.kind != kind else set()
+        return step
 
     def from_box(self):
         """A grid of the elements of a box of voxels, most of which are the background or another value."""
