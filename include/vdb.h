@@ -413,6 +413,10 @@ VDB_CODE vdb_view_share(vdb_view *from, vdb_view *to);
 /* Copies the grid of a view, which replaces the grid of the other handle. The accessors of the copy are empty. VDB_MEMORY. */
 VDB_CODE vdb_view_copy(vdb_view *from, vdb_grid *to);
 
+/* Moves the grid of a view back into a handle, whose grid it replaces. The view's handle is then empty. No cell is copied, and it allocates
+ * nothing. VDB_RANGE: this isn't the last view of the grid. */
+VDB_CODE vdb_view_take(vdb_view *view, vdb_grid *grid);
+
 /* Frees the handle's view, if it has one, and leaves the handle empty. The last view of a grid frees the grid. */
 VDB_NONNULL void vdb_view_free(vdb_view *view);
 

@@ -115,6 +115,7 @@ ARGUMENTS = {
     "vdb_view_new": (GRID, VIEW),
     "vdb_view_share": (VIEW, VIEW),
     "vdb_view_copy": (VIEW, GRID),
+    "vdb_view_take": (VIEW, GRID),
     "vdb_view_free": (VIEW,),
     "vdb_view_get": (VIEW, *PLACE, I64, I32),
     "vdb_view_get_many": (VIEW, COORD, c_size_t, I64, c_size_t, BUFFER, c_size_t),

@@ -649,7 +649,9 @@ static void typed_grid(int32_t kind, int64_t value, Read read, ReadView read_vie
     CHECK(vdb_view_new(&grid, &view) == VDB_OK);
     typed_box<T>(view, read_view, vdb_view_get);
     CHECK(other_view(&view, &voxel, &any, &kept, 1, &state, 1) == VDB_KINDS && kept == 7 && state == 7);
-    vdb_view_free(&view);
+    CHECK(vdb_view_take(&view, &grid) == VDB_OK && view.at == nullptr && vdb_view_take(&view, &grid) == VDB_EMPTY);
+    typed_box<T>(grid, read, vdb_grid_get);
+    vdb_grid_free(&grid);
 }
 
 static void typed_boxes()

@@ -8,7 +8,7 @@ ghost use Rattle.vdb_c.specs.Calls.{IsCopied};
 ghost use Rattle.vdb_c.specs.Elements.{IsLaid};
 ghost use Rattle.vdb_c.specs.Many.{IsReadAt, accessor_beside, bool_at, byte_at, number_at};
 ghost use Rattle.vdb_c.specs.Values.{state_number as number_of_state, value_number as number_of_value};
-ghost use Rattle.vdb_c.specs.Views.{IsShared, IsShown, OnShown, OnShownIf, OnView, shown};
+ghost use Rattle.vdb_c.specs.Views.{IsShared, IsShown, IsTaken, OnShown, OnShownIf, OnView, shown};
 
 pub(crate) mod reports;
 pub(crate) mod walks;
@@ -107,6 +107,31 @@ pub extern "C" fn vdb_view_copy(alloc: Global, from: &mut ViewHandle, to: &mut G
     };
     to.grid.put(alloc, copy);
     DONE
+}
+
+/// Moves the grid of its last view back into a handle, whose grid it replaces. The view's handle is empty then. No cell is copied.
+#[unsafe(no_mangle)]
+pub extern "C" fn vdb_view_take(alloc: Global, from: &mut ViewHandle, to: &mut GridHandle) -> i32
+    ensures { IsTaken (shown from.old.view.held) from.old.view.held from.new.view.held to.old.grid.held to.new.grid.held result }
+{
+    let Some(mut view) = from.view.take(alloc) else {
+        return EMPTY;
+    };
+    let Some(grid) = view.grid.take() else {
+        from.view.put(alloc, view);
+        return EMPTY;
+    };
+    match Arc::try_unwrap(grid) {
+        Ok(grid) => {
+            to.grid.put(alloc, grid);
+            DONE
+        }
+        Err(grid) => {
+            view.grid = Some(grid);
+            from.view.put(alloc, view);
+            OUT_OF_RANGE
+        }
+    }
 }
 
 /// Frees the handle's view, if it has one, and the grid with its last view. The handle is empty then.
