@@ -99,9 +99,10 @@ typedef struct vdb_box {
 } vdb_box;
 
 /* How many elements of an array lie from a voxel of a box to the next one along each axis. The element of the least corner is the
- * first one of the array. Rows don't overlap: z is at least 1, y at least z times the number of voxels of the box along z, and x at
- * least y times the number along y. For an array without gaps these are 1, the number along z, and the number along z times that
- * along y. */
+ * first one of the array. No two voxels share an element, as the axes are nested in some order: a step along each axis passes all elements
+ * that steps along the axes before it reach. So an array may be in row order, where z is 1, in column order, where x is 1, or any other, and
+ * may have gaps. Along an axis on which the box has one voxel any stride is valid. For an array without gaps in row order the strides are 1
+ * for z, the number of voxels along z for y, and that times the number along y for x. */
 typedef struct vdb_strides {
     size_t x, y, z;
 } vdb_strides;
@@ -158,7 +159,7 @@ enum {
     VDB_ROOT_LIMIT = 3, /* the grid would need more root blocks than its root limit */
     VDB_RANGE = 4, /* an argument is out of range */
     VDB_SUM_RANGE = 5, /* a sum is outside the type of the grid's values */
-    VDB_KINDS = 6, /* the two grids have values of different types */
+    VDB_KINDS = 6, /* the two grids, or the grid and an array, have values of different types */
     VDB_NO_SUM = 7, /* booleans have no sum */
     VDB_NO_GRID = 8, /* the scene has no such grid */
     VDB_NAME = 9, /* the bytes are no name */
@@ -368,13 +369,20 @@ VDB_CODE vdb_grid_write_many(vdb_grid *grid, int32_t accessor, const vdb_coord *
 
 /* Copies the value and the state of each voxel of a box to its element. No other element changes. It reads the tree tile by tile and
  * leaf by leaf, and allocates nothing.
- * VDB_RANGE: corners out of order, rows that overlap by their strides, or an array that is neither of length 0 nor long enough. */
+ * VDB_RANGE: corners out of order, strides whose axes aren't nested, or an array that is neither of length 0 nor long enough. */
 VDB_CODE vdb_grid_read_box(vdb_grid *grid, const vdb_box *box, const vdb_strides *strides, int64_t *values, size_t values_len,
                            uint8_t *states, size_t states_len);
 
+/* Copies the value, in its own type, and the state of each voxel of a box to its element, as vdb_grid_read_box does: of a grid of booleans,
+ * 1 for true and 0 for false, or of numbers of 32 bits. VDB_RANGE, as there. VDB_KINDS: the grid's values have another type. */
+VDB_CODE vdb_grid_read_box_bool(vdb_grid *grid, const vdb_box *box, const vdb_strides *strides, uint8_t *values, size_t values_len,
+                                uint8_t *states, size_t states_len);
+VDB_CODE vdb_grid_read_box_i32(vdb_grid *grid, const vdb_box *box, const vdb_strides *strides, int32_t *values, size_t values_len,
+                               uint8_t *states, size_t states_len);
+
 /* Sets each voxel of a box to the value and the state of its element, by x, then y, then z, through an accessor or without one. A box
  * of at least 8 voxels along each axis takes the least time: it is written leaf by leaf.
- * VDB_RANGE: no such accessor, corners out of order, or rows that overlap by their strides; an array that is neither of length 0 nor
+ * VDB_RANGE: no such accessor, corners out of order, or strides whose axes aren't nested; an array that is neither of length 0 nor
  * long enough, both of length 0, or a value outside the type. Nothing has changed after it. VDB_ROOT_LIMIT, VDB_MEMORY: the first *written
  * voxels of the box in that order are set, and the one after them failed. After VDB_OK, *written is the number of voxels of the box. */
 VDB_CODE vdb_grid_write_box(vdb_grid *grid, int32_t accessor, const vdb_box *box, const vdb_strides *strides, const int64_t *values,
@@ -383,7 +391,7 @@ VDB_CODE vdb_grid_write_box(vdb_grid *grid, int32_t accessor, const vdb_box *box
 /* Creates a grid from an array, in one pass over it: each voxel of a box has the value of its element, and is active unless this is the
  * background. Every other voxel has the background, inactive. The values have the type of the elements: VDB_BOOL (true unless the byte is 0),
  * VDB_I32 or VDB_I64. The tree is then the smallest one, as after vdb_grid_prune. It replaces the handle's grid, which stays if the call fails.
- * VDB_RANGE: a background outside the type, a limit outside 1 to 65,536, corners out of order, rows that overlap by their strides, or an
+ * VDB_RANGE: a background outside the type, a limit outside 1 to 65,536, corners out of order, strides whose axes aren't nested, or an
  * array that isn't long enough. VDB_ROOT_LIMIT. VDB_MEMORY, also where more memory would have led to VDB_ROOT_LIMIT. */
 VDB_CODE vdb_grid_from_box_bool(vdb_grid *grid, int64_t background, uint32_t limit, const vdb_box *box, const vdb_strides *strides,
                                 const uint8_t *values, size_t values_len);
@@ -405,18 +413,26 @@ VDB_CODE vdb_view_share(vdb_view *from, vdb_view *to);
 /* Copies the grid of a view, which replaces the grid of the other handle. The accessors of the copy are empty. VDB_MEMORY. */
 VDB_CODE vdb_view_copy(vdb_view *from, vdb_grid *to);
 
+/* Moves the grid of a view back into a handle, whose grid it replaces. The view's handle is then empty. No cell is copied, and it allocates
+ * nothing. VDB_RANGE: this isn't the last view of the grid. */
+VDB_CODE vdb_view_take(vdb_view *view, vdb_grid *grid);
+
 /* Frees the handle's view, if it has one, and leaves the handle empty. The last view of a grid frees the grid. */
 VDB_NONNULL void vdb_view_free(vdb_view *view);
 
 /* Returns the value and the state of a voxel, from the root. */
 VDB_CODE vdb_view_get(vdb_view *view, int32_t x, int32_t y, int32_t z, int64_t *value, int32_t *active);
 
-/* Copies the values and the states of many voxels, or of a box, to arrays, as vdb_grid_get_many and vdb_grid_read_box do, with the same
- * codes. */
+/* Copies the values and the states of many voxels, or of a box, to arrays, as vdb_grid_get_many and the calls vdb_grid_read_box do, with
+ * the same codes. */
 VDB_CODE vdb_view_get_many(vdb_view *view, const vdb_coord *at, size_t count, int64_t *values, size_t values_len, uint8_t *states,
                            size_t states_len);
 VDB_CODE vdb_view_read_box(vdb_view *view, const vdb_box *box, const vdb_strides *strides, int64_t *values, size_t values_len,
                            uint8_t *states, size_t states_len);
+VDB_CODE vdb_view_read_box_bool(vdb_view *view, const vdb_box *box, const vdb_strides *strides, uint8_t *values, size_t values_len,
+                                uint8_t *states, size_t states_len);
+VDB_CODE vdb_view_read_box_i32(vdb_view *view, const vdb_box *box, const vdb_strides *strides, int32_t *values, size_t values_len,
+                               uint8_t *states, size_t states_len);
 
 /* Returns what the call of the same name for a grid returns, with the same codes. */
 VDB_CODE vdb_view_kind(vdb_view *view, int32_t *kind);

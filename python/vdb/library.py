@@ -59,6 +59,8 @@ BYTES, BUFFER = c_char_p, POINTER(c_uint8)
 PLACE = (c_int32, c_int32, c_int32)
 NAMED = (SCENE, BYTES, c_size_t)
 DENSE = (BOX, POINTER(Strides), I64, c_size_t, BUFFER, c_size_t)
+DENSE_BOOL = (BOX, POINTER(Strides), BUFFER, c_size_t, BUFFER, c_size_t)
+DENSE_I32 = (BOX, POINTER(Strides), I32, c_size_t, BUFFER, c_size_t)
 ELEMENTS = (c_int64, c_uint32, BOX, POINTER(Strides))
 LEAVES = (COORD, c_size_t, I64, c_size_t, U64, c_size_t, SIZE)
 PARTS = (POINTER(Part), c_size_t, SIZE)
@@ -104,6 +106,8 @@ ARGUMENTS = {
     "vdb_grid_get_many": (GRID, c_int32, COORD, c_size_t, I64, c_size_t, BUFFER, c_size_t),
     "vdb_grid_write_many": (GRID, c_int32, COORD, c_size_t, I64, c_size_t, BUFFER, c_size_t, SIZE),
     "vdb_grid_read_box": (GRID, *DENSE),
+    "vdb_grid_read_box_bool": (GRID, *DENSE_BOOL),
+    "vdb_grid_read_box_i32": (GRID, *DENSE_I32),
     "vdb_grid_write_box": (GRID, c_int32, *DENSE, SIZE),
     "vdb_grid_from_box_bool": (GRID, *ELEMENTS, BUFFER, c_size_t),
     "vdb_grid_from_box_i32": (GRID, *ELEMENTS, I32, c_size_t),
@@ -111,10 +115,13 @@ ARGUMENTS = {
     "vdb_view_new": (GRID, VIEW),
     "vdb_view_share": (VIEW, VIEW),
     "vdb_view_copy": (VIEW, GRID),
+    "vdb_view_take": (VIEW, GRID),
     "vdb_view_free": (VIEW,),
     "vdb_view_get": (VIEW, *PLACE, I64, I32),
     "vdb_view_get_many": (VIEW, COORD, c_size_t, I64, c_size_t, BUFFER, c_size_t),
     "vdb_view_read_box": (VIEW, *DENSE),
+    "vdb_view_read_box_bool": (VIEW, *DENSE_BOOL),
+    "vdb_view_read_box_i32": (VIEW, *DENSE_I32),
     "vdb_view_kind": (VIEW, I32),
     "vdb_view_background": (VIEW, I64),
     "vdb_view_limit": (VIEW, U32),

@@ -609,6 +609,57 @@ static void from_box()
     CHECK(vdb_grid_from_box_i32(&grid, 0, 1, &box, &strides, &value, 0) == VDB_RANGE && grid.at == nullptr);
 }
 
+// Reads a box by a call in row order, in column order and in another one, and compares each element with its voxel.
+template <class T, class Handle, class Read, class Get>
+static void typed_box(Handle &handle, Read read, Get get)
+{
+    const vdb_box box = {{-1, 0, 0}, {2, 4, 9}};
+    for (const vdb_strides &strides : {vdb_strides{50, 10, 1}, vdb_strides{1, 4, 20}, vdb_strides{11, 1, 60}}) {
+        std::vector<T> values(578);
+        std::vector<uint8_t> states(578, 7);
+        CHECK(read(&handle, &box, &strides, values.data(), values.size(), states.data(), states.size()) == VDB_OK);
+        for (int32_t x = -1; x <= 2; x++)
+            for (int32_t y = 0; y <= 4; y++)
+                for (int32_t z = 0; z <= 9; z++) {
+                    const size_t at = (x + 1) * strides.x + y * strides.y + z * strides.z;
+                    int64_t value = 0;
+                    int32_t active = 0;
+                    CHECK(get(&handle, x, y, z, &value, &active) == VDB_OK && values[at] == value && states[at] == active);
+                }
+    }
+    T value = 7;
+    const vdb_strides shared = {1, 3, 20};
+    uint8_t state = 7;
+    CHECK(read(&handle, &box, &shared, &value, 0, &state, 0) == VDB_RANGE);
+}
+
+// A grid of booleans or of numbers of 32 bits, and then its view, which calls for another type don't read.
+template <class T, class Read, class ReadView, class Other, class OtherView, class U>
+static void typed_grid(int32_t kind, int64_t value, Read read, ReadView read_view, Other other, OtherView other_view, U kept)
+{
+    vdb_grid grid = VDB_GRID_INIT;
+    vdb_view view = VDB_VIEW_INIT;
+    const vdb_box voxel = {{2, 3, 8}, {2, 3, 8}};
+    const vdb_strides any = {0, 0, 0};
+    uint8_t state = 7;
+    CHECK(vdb_grid_new(&grid, kind, 0, 10) == VDB_OK);
+    CHECK(vdb_grid_set(&grid, VDB_NO_ACCESSOR, 2, 3, 8, value, 1) == VDB_OK && vdb_grid_set(&grid, VDB_NO_ACCESSOR, -1, 4, 0, 1, 0) == VDB_OK);
+    typed_box<T>(grid, read, vdb_grid_get);
+    CHECK(other(&grid, &voxel, &any, &kept, 1, &state, 1) == VDB_KINDS);
+    CHECK(vdb_view_new(&grid, &view) == VDB_OK);
+    typed_box<T>(view, read_view, vdb_view_get);
+    CHECK(other_view(&view, &voxel, &any, &kept, 1, &state, 1) == VDB_KINDS && kept == 7 && state == 7);
+    CHECK(vdb_view_take(&view, &grid) == VDB_OK && view.at == nullptr && vdb_view_take(&view, &grid) == VDB_EMPTY);
+    typed_box<T>(grid, read, vdb_grid_get);
+    vdb_grid_free(&grid);
+}
+
+static void typed_boxes()
+{
+    typed_grid<uint8_t>(VDB_BOOL, 1, vdb_grid_read_box_bool, vdb_view_read_box_bool, vdb_grid_read_box_i32, vdb_view_read_box_i32, int32_t(7));
+    typed_grid<int32_t>(VDB_I32, INT32_MIN, vdb_grid_read_box_i32, vdb_view_read_box_i32, vdb_grid_read_box_bool, vdb_view_read_box_bool, uint8_t(7));
+}
+
 static void leaves()
 {
     vdb::Grid grid(vdb::Kind::i64, -1);
@@ -687,6 +738,7 @@ int main(int, char **argv)
     voxels();
     arrays();
     from_box();
+    typed_boxes();
     leaves();
     views();
     boxes();

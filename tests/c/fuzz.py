@@ -27,7 +27,9 @@ import language  # noqa: E402
 from cells import HIGH, LOW, lengths, volume  # noqa: E402
 from language import CALLS, KINDS, SPANS  # noqa: E402
 
-OK, EMPTY, MEMORY, ROOT_LIMIT, RANGE = 0, 1, 2, 3, 4
+OK, EMPTY, MEMORY, ROOT_LIMIT, RANGE, OTHER_KIND = 0, 1, 2, 3, 4, 6
+#: The types of the elements of arrays, by the type of a grid.
+ELEMENTS = {"bool": c_uint8, "i32": c_int32, "i64": c_int64}
 ERRORS = {"root-limit": ROOT_LIMIT, "sum-range": 5, "kind": 6, "no-sum": 7}
 NO_GRID, NAME, NAME_TAKEN, GRID_LIMIT, META_LIMIT, NO_META, TEXT, BUFFER = 8, 9, 10, 11, 12, 13, 14, 15
 FAULTS = range(20, 36)
@@ -213,14 +215,18 @@ class Session:
             [slot],
         )
 
-    def on_readable(self, call, arguments, wrong=False, outs=(), results=None, commit=None):
-        """A step that reads some grid or, at times, some view. `commit` gets the map's grid, the word of its calls and its handle."""
+    def readable(self):
+        """Some grid or, at times, some view: the word of its calls, its handle, the map's grid, and the grids of the step."""
         slot, shown = self.grid(), [it for it in range(VIEWS) if self.view_maps[it]]
-        word, handle, grid, grids = "grid", self.grids[slot], self.maps[slot], [slot]
-        if self.rarely(0.2):
-            number = self.chance.choice(shown) if shown and not self.rarely(0.05) else self.chance.randrange(VIEWS)
-            word, handle, grid, grids = "view", self.views[number], self.view_maps[number], []
-        refusals = [*([EMPTY] if grid is None else []), *([RANGE] if wrong else [])]
+        if not self.rarely(0.2):
+            return "grid", self.grids[slot], self.maps[slot], [slot]
+        number = self.chance.choice(shown) if shown and not self.rarely(0.05) else self.chance.randrange(VIEWS)
+        return "view", self.views[number], self.view_maps[number], []
+
+    def on_readable(self, call, arguments, wrong=False, outs=(), results=None, commit=None, at=None):
+        """A step that reads `at`, or some grid or view. `commit` gets the map's grid, the word of its calls and its handle."""
+        word, handle, grid, grids = at or self.readable()
+        refusals = {*([EMPTY] if grid is None else []), *([RANGE] if wrong else [])}
         do = commit and (lambda: commit(grid, word, handle))
         return Step(f"vdb_{word}_{call}", [handle, *arguments], outs, refusals, do, results and (lambda: results(grid)), grids)
 
@@ -360,22 +366,29 @@ class Session:
         step.prefix = lambda grid: commit(grid, written.value)
         return step
 
+    def steps(self, sides):
+        """The strides of an array with the voxels of a box of these sides, in some order of the axes; rarely one of them is wrong."""
+        steps, step = [0, 0, 0], self.chance.choice([1, 1, 1, 2, 3])
+        for axis in self.chance.choice([(2, 1, 0), (2, 1, 0), *itertools.permutations(range(3))]):
+            steps[axis] = step
+            step = step * sides[axis] + self.chance.choice([0, 0, 0, 1, 5])
+        if self.rarely():
+            axis = self.chance.randrange(3)
+            steps[axis] = self.chance.choice([0, steps[axis] - 1])
+        return steps
+
     def dense(self):
         slot, is_wide = self.grid(), self.is_near and self.rarely(0.1)
         box = self.cube(range(8, 13) if is_wide else range(1, 8 if self.is_near else 4))
         sides = sides_of(box)
         argument, wrong = self.box_argument(box)
-        step_z = self.chance.choice([1, 1, 1, 2, 3])
-        step_y = sides[2] * step_z + self.chance.choice([0, 0, 0, 1, 5])
-        step_x = sides[1] * step_y + self.chance.choice([0, 0, 0, 2])
-        if self.rarely():
-            step_z, step_y, step_x = self.chance.choice([(0, step_y, step_x), (step_z, step_y - 1, step_x), (step_z, step_y, step_x - 1)])
-            wrong = wrong or step_z == 0 or step_y < sides[2] * step_z or step_x < sides[1] * step_y
-        places, elements = elements_of(box, (step_x, step_y, step_z))
+        steps = self.steps(sides)
+        wrong = wrong or not are_nested(sides, steps)
+        places, elements = elements_of(box, steps)
         count = max(elements) + 1
         values, states, lengths = self.arrays(slot, count)
         wrong = wrong or any(0 < it < count for it in lengths)
-        strides = self.type("vdb_strides", step_x, step_y, step_z)
+        strides = self.type("vdb_strides", *steps)
         arguments = [argument, byref(strides), values, lengths[0], states, lengths[1]]
         if self.rarely(0.5):
             accessor = self.accessor()
@@ -392,7 +405,16 @@ class Session:
                         part[element] = int(cell)
             return [tuple(part or array) for part, array in zip(found, (values, states))]
 
-        return self.on_readable("read_box", arguments, wrong, [values, states], results)
+        at = self.readable()
+        grid = at[2]
+        kind = self.chance.choice(["bool", "i32"] if grid is None or self.rarely() else ["i64", grid.kind])
+        call = "read_box" if kind == "i64" else f"read_box_{kind}"  # the call for grids of any type, or of this one
+        if kind != "i64":
+            arguments[2] = values = (ELEMENTS[kind] * max(1, lengths[0]))()
+        step = self.on_readable(call, arguments, wrong, [values, states], results, at=at)
+        if grid is not None and kind not in ("i64", grid.kind):
+            step.refusals.add(OTHER_KIND)
+        return step
 
     def from_box(self):
         """A grid of the elements of a box of voxels, most of which are the background or another value."""
@@ -401,16 +423,14 @@ class Session:
         background, limit = self.value(kind), self.chance.choice([0, 65537]) if self.rarely() else self.chance.choice([1, 2, 4096])
         made, sides = Grid(kind, background, limit), sides_of(box)
         argument, wrong = self.box_argument(box)
-        step_z = self.chance.choice([1, 1, 2])
-        step_y = sides[2] * step_z + self.chance.choice([0, 0, 5])
-        step_x = sides[1] * step_y - self.rarely()
-        places, elements = elements_of(box, (step_x, step_y, step_z))
+        steps = self.steps(sides)
+        places, elements = elements_of(box, steps)
         count = max(elements) + 1
         spans = (0, 255) if kind == "bool" else SPANS[kind]
         some = [*spans, 0, 1, 5] + [background] * 9 * made.has(background)
-        values = ({"bool": c_uint8, "i32": c_int32, "i64": c_int64}[kind] * count)(*self.chance.choices(some[self.chance.randrange(len(some)) :], k=count))
+        values = (ELEMENTS[kind] * count)(*self.chance.choices(some[self.chance.randrange(len(some)) :], k=count))
         length = self.chance.randrange(count) if self.rarely() else count
-        wrong = wrong or step_x < sides[1] * step_y or length < count or not made.has(background) or not 1 <= limit <= 65536
+        wrong = wrong or not are_nested(sides, steps) or length < count or not made.has(background) or not 1 <= limit <= 65536
 
         def commit():
             numbers = [int(values[it] != 0) if kind == "bool" else values[it] for it in elements]
@@ -418,7 +438,7 @@ class Session:
             self.maps[slot] = made
 
         name = f"vdb_grid_from_box_{kind}"
-        strides = self.type("vdb_strides", step_x, step_y, step_z)
+        strides = self.type("vdb_strides", *steps)
         arguments = [self.grids[slot], background, limit, argument, byref(strides), values, length]
         return Step(name, arguments, (), [RANGE] if wrong else [], commit, None, [slot])
 
@@ -844,6 +864,16 @@ def elements_of(box, steps):
     """The voxels of a box, and for each the number of its element in an array with these strides."""
     places = [*itertools.product(*(range(first, last + 1) for first, last in zip(box[:3], box[3:])))]
     return places, [sum((it - low) * step for it, low, step in zip(at, box, steps)) for at in places]
+
+
+def are_nested(sides, steps):
+    """Whether in some order of the axes a step along each passes all elements that those before it reach."""
+    last = 0
+    for step, side in sorted(zip(steps, sides)):
+        if side > 1 and step <= last:
+            return False
+        last += (side - 1) * step
+    return True
 
 
 def count_of(count):

@@ -294,6 +294,8 @@ PYTHON_TYPES = {
     "I32": ["c_int *"], "I64": ["c_long *"], "U32": ["c_uint *"], "U64": ["c_ulong *"], "SIZE": ["c_ulong *"], "BYTES": ["char *"], "BUFFER": ["c_ubyte *"],
     "*PLACE": ["c_int"] * 3, "*NAMED": ["vdb_scene *", "char *", "c_ulong"], "POINTER(Count)": ["vdb_count *"],
     "*DENSE": ["vdb_box *", "vdb_strides *", "c_long *", "c_ulong", "c_ubyte *", "c_ulong"],
+    "*DENSE_BOOL": ["vdb_box *", "vdb_strides *", "c_ubyte *", "c_ulong", "c_ubyte *", "c_ulong"],
+    "*DENSE_I32": ["vdb_box *", "vdb_strides *", "c_int *", "c_ulong", "c_ubyte *", "c_ulong"],
     "*LEAVES": ["vdb_coord *", "c_ulong", "c_long *", "c_ulong", "c_ulong *", "c_ulong", "c_ulong *"],
     "*PARTS": ["vdb_part *", "c_ulong", "c_ulong *"], "*ELEMENTS": ["c_long", "c_uint", "vdb_box *", "vdb_strides *"],
     "POINTER(CensusCounts)": ["vdb_census *"], "c_int32": ["c_int"], "c_int64": ["c_long"], "c_uint32": ["c_uint"], "c_size_t": ["c_ulong"],

@@ -1,5 +1,8 @@
 -- Arrays of a box of a tree, with values of any type.
-use Rattle.vdb_c.proofs.Common.{◌≡◌, sym, ap, ◌∙◌, ℤ, IsTrue, List, ◌≤ℤ◌, arith, ints, is_bounds, Box, everywhere, is_box, is_inside, is_within, Coord, both, inside_from, inside_parts, IsLaid, Strides, Field, as_cell_of, as_field_of, cell_inside, Cell}
+use Rattle.vdb_c.proofs.Common.{◌≡◌, inl, refl, sym, subst, ap, ◌∙◌, ℕ, ℤ, IsTrue, List, length, Some, ◌≤ℤ◌, arith, ints, is_bounds, Box, everywhere, is_box, is_inside, is_within, Coord, both, inside_from, inside_parts, IsLaid, Strides, Field, as_cell_of, as_field_of, cell_inside, Cell, AnyGrid, Kind, Scalar, done, grid_field, grid_kind}
+use Rattle.vdb_c.specs.BoxArrays.{ReadsBoxOf, box_beside}
+use Rattle.vdb_c.specs.Many.{byte_at}
+use Rattle.vdb_c.specs.declared.values.Corners.{Corners}
 use Rattle.vdb_c.proofs.Laid.{laid_same}
 
 -- a box within the range has voxels in the range
@@ -20,3 +23,17 @@ module _ {V W X : Type 0} (make : V → W) (f : Field V) (of : Cell V → X) (by
   laid_as b s xs ys h laid =
       laid_same b s (is_inside b) (λ p. of (f.cell p)) (λ p. by ((as_field_of make f).cell p)) xs ys
       (λ p i. same (f.cell p) ∙ ap by (sym (cell_inside (make f.background) (λ q. as_cell_of make (f.cell q)) p (in_range b h p i)))) laid
+
+-- a box of a grid of a type, by what its field has
+pub box_read : {X : Type 0} (kind : Kind) (value_at : Field Scalar → Coord → X) (c : Corners) (s : Strides) (g : AnyGrid) (values values' : List X) (states states' : List ℕ) (b : Box)
+    → Some b ≡ box_beside c s (length values) (length states) → grid_kind g ≡ kind → (f : Field Scalar) → f ≡ grid_field g → IsLaid b s (is_inside b) (value_at f) values values'
+    → IsLaid b s (is_inside b) (byte_at f) states states' → ReadsBoxOf kind value_at c s g values values' states states' done
+unfolding ReadsBoxOf
+box_read kind value_at c s g values values' states states' b e k f same h i = inl (
+  b,
+  sym e,
+  k,
+  refl,
+  subst (λ (f : Field Scalar). IsLaid b s (is_inside b) (value_at f) values values') same h,
+  subst (λ (f : Field Scalar). IsLaid b s (is_inside b) (byte_at f) states states') same i,
+)

@@ -121,7 +121,7 @@ module _ {X : Type 0} (b : Box) (s : Strides) (apart : IsTrue (are_apart b s)) (
       let is : rank part q ≡ rank part p + n = omega (arith, least) in
       let end = behind_is in
       let l : n < size = omega (arith, is, most, end) in
-      (n, l, same_place part (dense part) (dense_apart part) q (along_z p n) i.0 (voxel_inside n l) (is ∙ sym (row_rank part p inside n)))
+      (n, l, same_place part (dense part) (dense_apart part p inside) q (along_z p n) i.0 (voxel_inside n l) (is ∙ sym (row_rank part p inside n)))
 
   module _ (run : ℕ → X → Type 0) (is : (i : ℕ) (x : X) → i < size → run i x → x ≡ of (along_z p i)) (xs ys zs : List X) (room : place b s p + size ≤ length ys)
       (first n : ℕ) (at : first ≡ place b s p) (many : n ≡ size) (given : HasRun first n run ys zs) where

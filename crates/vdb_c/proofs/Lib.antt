@@ -7,6 +7,7 @@ mod HeldViewValues
 mod NextActive
 pub mod Filled
 pub mod NextVoxels
+pub mod NestedAxes
 pub mod Places
 pub mod Laid
 pub mod RowsLaid

@@ -1,9 +1,9 @@
 -- The elements of voxels in an array.
-use Rattle.vdb_c.proofs.Common.{◌≡◌, suc, ◌+◌, ◌*◌, ◌^◌, ◌<◌, ◌≤◌, ◌<ℤ◌, ℕ, ℤ, pos, ◌+ℤ◌, refl, sym, ap, ◌∙◌, Bool, true, false, ◌&&◌, ◌||◌, IsTrue, SFits, w32, to_z, of_z, arith, tests, rules, int_le, nat_eq, nat_le, nat_lt, ints, to_z-of_z, mul-le, int_gap, is_bounds, suc-mul, suc-eq-add-one, Box, coord, everywhere, extent, is_box, is_inside, is_within, Coord, both, are_apart, place, Strides}
+use Rattle.vdb_c.proofs.Common.{◌≡◌, suc, ◌+◌, ◌*◌, ◌^◌, ◌<◌, ◌≤◌, ◌<ℤ◌, ℕ, ℤ, pos, ◌+ℤ◌, refl, sym, ap, ◌∙◌, true, IsTrue, SFits, w32, to_z, of_z, arith, int_le, ints, to_z-of_z, mul-le, int_gap, is_bounds, suc-mul, suc-eq-add-one, Box, coord, everywhere, extent, is_box, is_inside, is_within, Coord, both, are_apart, place, Strides}
 use Rattle.std.proofs.Common.{negsuc, ◌-ℤ◌, unsigned_abs}
-use Rattle.std.proofs.lemmas.Nat.{row_fits, same_from_place}
 use Rattle.vdb_coord.specs.Space.{is_between}
 use Rattle.vdb_coord.proofs.Boxes.{three}
+use Rattle.vdb_c.proofs.NestedAxes.{same_gaps}
 use Rattle.vdb_c.proofs.NextVoxels.{next_along_z}
 
 -- ---- along an axis
@@ -13,16 +13,6 @@ reached (pos a) (pos b) h = grind (arith, ints)
 reached (pos a) (negsuc b) h = grind (arith, ints)
 reached (negsuc a) (pos b) h = grind (arith, ints)
 reached (negsuc a) (negsuc b) h = grind (arith, ints)
-
-gap_within : (low high z : ℤ) → IsTrue (is_between low high z) → int_gap low z < extent low high
-gap_within (pos a) (pos b) (pos c) h = grind (arith, ints)
-gap_within (pos a) (pos b) (negsuc c) h = grind (arith, ints)
-gap_within (pos a) (negsuc b) (pos c) h = grind (arith, ints)
-gap_within (pos a) (negsuc b) (negsuc c) h = grind (arith, ints)
-gap_within (negsuc a) (pos b) (pos c) h = grind (arith, ints)
-gap_within (negsuc a) (pos b) (negsuc c) h = grind (arith, ints)
-gap_within (negsuc a) (negsuc b) (pos c) h = grind (arith, ints)
-gap_within (negsuc a) (negsuc b) (negsuc c) h = grind (arith, ints)
 
 gap_at_most : (low high z : ℤ) → IsTrue (is_between low high z) → int_gap low z ≤ int_gap low high
 gap_at_most (pos a) (pos b) (pos c) h = grind (arith, ints)
@@ -39,12 +29,6 @@ same_gap low high m n h k e =
     sym (reached low m (both (int_le low m) (int_le m high) h).0) ∙ ap (λ g. low +ℤ pos g) e ∙ reached low n (both (int_le low n) (int_le n high) k).0
 
 -- ---- in a box
-
-pub positive : (n : ℕ) → nat_lt 0 n ≡ true → 0 < n
-positive n h = search (rules, tests)
-
-pub at_most : (m n : ℕ) → nat_le m n ≡ true → m ≤ n
-at_most m n h = search (rules, tests)
 
 next_gap : (low z : ℤ) → int_le low z ≡ true → int_gap low (z +ℤ pos 1) ≡ int_gap low z + 1
 next_gap (pos a) (pos b) h = grind (arith, ints)
@@ -82,35 +66,17 @@ module _ (b : Box) (s : Strides) where
         sums a a' c c' d d' h k l = omega arith
 
   module _ (apart : IsTrue (are_apart b s)) where
-    pub strides : (nat_lt 0 s.z ≡ true) × (nat_le (extent b.min.z b.max.z * s.z) s.y ≡ true) × (nat_le (extent b.min.y b.max.y * s.y) s.x ≡ true)
-    strides = three (nat_lt 0 s.z) (nat_le (extent b.min.z b.max.z * s.z) s.y) (nat_le (extent b.min.y b.max.y * s.y) s.x) apart
-
-    -- a row and a plane end before the next one begins
-    in_row : (p : Coord) → IsTrue (is_inside b p) → int_gap b.min.z p.z * s.z < s.y
-    in_row p i =
-        let fits = row_fits (int_gap b.min.z p.z) s.z (extent b.min.z b.max.z) s.z (gap_within b.min.z b.max.z p.z (axes p i).2) (omega arith) in
-        within (int_gap b.min.z p.z * s.z) s.z (extent b.min.z b.max.z * s.z) s.y fits (positive s.z strides.0) (at_most _ _ strides.1)
-      where
-        within : (a d e y : ℕ) → a + d ≤ e → 0 < d → e ≤ y → a < y
-        within a d e y h k l = omega arith
-
-    in_plane : (p : Coord) → IsTrue (is_inside b p) → int_gap b.min.y p.y * s.y + int_gap b.min.z p.z * s.z < s.x
-    in_plane p i =
-        let fits = row_fits (int_gap b.min.y p.y) s.y (extent b.min.y b.max.y) s.y (gap_within b.min.y b.max.y p.y (axes p i).1) (omega arith) in
-        within (int_gap b.min.y p.y * s.y) s.y (extent b.min.y b.max.y * s.y) s.x (int_gap b.min.z p.z * s.z) fits (in_row p i) (at_most _ _ strides.2)
-      where
-        within : (a d e x c : ℕ) → a + d ≤ e → c < d → e ≤ x → a + c < x
-        within a d e x c h k l = omega arith
-
     -- no two voxels share an element
     pub same_place : (p q : Coord) → IsTrue (is_inside b p) → IsTrue (is_inside b q) → place b s p ≡ place b s q → p ≡ q
     same_place p q i j e =
-        let first = same_from_place (int_gap b.min.x p.x) (int_gap b.min.y p.y * s.y + int_gap b.min.z p.z * s.z) (int_gap b.min.x q.x) (int_gap b.min.y q.y * s.y + int_gap b.min.z q.z * s.z) s.x (in_plane p i) (in_plane q j) e in
-        let second = same_from_place (int_gap b.min.y p.y) (int_gap b.min.z p.z * s.z) (int_gap b.min.y q.y) (int_gap b.min.z q.z * s.z) s.y (in_row p i) (in_row q j) first.1 in
-        let third = same_from_place (int_gap b.min.z p.z) 0 (int_gap b.min.z q.z) 0 s.z (positive s.z strides.0) (positive s.z strides.0) (omega (arith, second.1)) in
-        let x = same_gap b.min.x b.max.x p.x q.x (axes p i).0 (axes q j).0 first.0 in
-        let y = same_gap b.min.y b.max.y p.y q.y (axes p i).1 (axes q j).1 second.0 in
-        let z = same_gap b.min.z b.max.z p.z q.z (axes p i).2 (axes q j).2 third.0 in
+        let at = axes p i in
+        let other = axes q j in
+        let gaps = same_gaps b s apart (int_gap b.min.x p.x) (int_gap b.min.y p.y) (int_gap b.min.z p.z) (int_gap b.min.x q.x) (int_gap b.min.y q.y) (int_gap b.min.z q.z)
+        (gap_at_most b.min.x b.max.x p.x at.0) (gap_at_most b.min.y b.max.y p.y at.1) (gap_at_most b.min.z b.max.z p.z at.2)
+        (gap_at_most b.min.x b.max.x q.x other.0) (gap_at_most b.min.y b.max.y q.y other.1) (gap_at_most b.min.z b.max.z q.z other.2) e in
+        let x = same_gap b.min.x b.max.x p.x q.x at.0 other.0 gaps.0 in
+        let y = same_gap b.min.y b.max.y p.y q.y at.1 other.1 gaps.1 in
+        let z = same_gap b.min.z b.max.z p.z q.z at.2 other.2 gaps.2 in
         λ k. record { x = x k; y = y k; z = z k }
 
 -- no voxel lies past the end of its row
@@ -145,24 +111,6 @@ max_inside b h = let o = ordered b h in rw (o.0, o.1, o.2, self b.max.x, self b.
 pub extent_is : (low high : ℤ) → int_le low high ≡ true → (g : ℕ) → g ≡ int_gap low high → g + 1 ≡ extent low high
 extent_is low high h g e = ap (λ (n : ℕ). n + 1) e ∙ sym (rw h refl)
 
--- the test of strides, step by step
-module _ (r y p x : ℕ) where
-  pub no_stride : (z : ℕ) → z ≡ 0 → false ≡ (nat_lt 0 z && nat_le r y && nat_le p x)
-  no_stride z e = rw e refl
-
-  pub long_row : (z : ℕ) → y < r → false ≡ (nat_lt 0 z && nat_le r y && nat_le p x)
-  long_row z h = let no : nat_le r y ≡ false = search (rules, tests) in rw no (by (nat_lt 0 z))
-    where
-      by : (b : Bool) → false ≡ (b && false && nat_le p x)
-      by true = refl
-      by false = refl
-
-  pub by_plane : (z : ℕ) → (z ≡ 0 → ⊥) → r ≤ y → nat_le p x ≡ (nat_lt 0 z && nat_le r y && nat_le p x)
-  by_plane z h k =
-      let some : 0 < z = omega arith in
-      let first : nat_lt 0 z ≡ true = search (rules, tests) in
-      let second : nat_le r y ≡ true = search (rules, tests) in rw (first, second) refl
-
 -- how far numbers are apart, as the code finds it
 gap_is : (low n : ℤ) → int_le low n ≡ true → unsigned_abs (n -ℤ low) ≡ int_gap low n
 gap_is (pos a) (pos b) h = grind (arith, ints)
@@ -172,9 +120,6 @@ gap_is (negsuc a) (negsuc b) h = grind (arith, ints)
 
 pub passed_gap : (low n : ℤ) → SFits w32 low → SFits w32 n → int_le low n ≡ true → unsigned_abs (to_z w32 (of_z w32 n) -ℤ to_z w32 (of_z w32 low)) ≡ int_gap low n
 passed_gap low n f g h = rw (to_z-of_z w32 n g, to_z-of_z w32 low f) (gap_is low n h)
-
-pub by_place : (len n m : ℕ) → (len ≡ 0 → ⊥) → n ≡ m → nat_lt n len ≡ (nat_eq len 0 || nat_lt m len)
-by_place len n m h e = let no : nat_eq len 0 ≡ false = search (rules, tests) in rw (no, e) refl
 
 -- along z the next voxel of a part of the box has the element one stride past that of the last
 pub next_along : (b : Box) (s : Strides) (part : Box) → ((q : Coord) → IsTrue (is_inside part q) → IsTrue (is_inside b q)) → (p : Coord) → IsTrue (is_inside part p) → p.z <ℤ part.max.z

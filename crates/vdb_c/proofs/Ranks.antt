@@ -1,15 +1,14 @@
 -- The voxels of a box by their number.
-use Rattle.vdb_c.proofs.Common.{◌≡◌, ◌≢◌, add-one, ◌⊎◌, inl, inr, ◌+◌, ◌*◌, ◌<◌, ◌≤◌, ℕ, ℤ, pos, ◌+ℤ◌, ◌≤ℤ◌, ◌<ℤ◌, refl, sym, ap, ◌∙◌, subst, Bool, true, false, ◌&&◌, IsTrue, arith, tests, rules, int_le, Some, None, nat_le, nat_lt, int_gap, ints, suc-mul, mul-le, Box, coord, coord_eq, extent, is_inside, volume, IsBefore, Coord, before_not_same, coord_equiv, inside_from, inside_parts, up_to_x, IsNextVoxel, dense, is_first, rank, are_apart, place, Strides}
+use Rattle.vdb_c.proofs.Common.{◌≡◌, ◌≢◌, add-one, ◌⊎◌, inl, inr, ◌+◌, ◌*◌, ◌<◌, ◌≤◌, ℕ, ℤ, pos, ◌+ℤ◌, ◌≤ℤ◌, ◌<ℤ◌, refl, sym, ap, ◌∙◌, subst, Bool, true, false, ◌&&◌, IsTrue, arith, tests, rules, int_le, Some, None, nat_eq, nat_lt, int_gap, ints, suc-mul, Box, coord, coord_eq, extent, is_inside, volume, IsBefore, Coord, before_not_same, coord_equiv, inside_from, inside_parts, up_to_x, IsNextVoxel, dense, is_first, rank, are_apart, place, Strides}
 use Rattle.std.proofs.Math.Nat.{mul_assoc, zero-mul}
 use Rattle.vdb_coord.proofs.BlockOrder.{before_not_past, which_before}
 use Rattle.vdb_c.proofs.Laid.{either_way}
-use Rattle.vdb_c.proofs.NextVoxels.{next_along_x, next_along_y, next_along_z, no_next}
-use Rattle.vdb_c.proofs.Places.{at_most, extent_is, place_at_most, positive, reached, same_place, strides}
+use Rattle.vdb_c.specs.Elements.{axis_x, axis_y, axis_z, is_past}
+use Rattle.vdb_c.proofs.NestedAxes.{volume_within}
+use Rattle.vdb_c.proofs.NextVoxels.{next_along_x, next_along_y, next_along_z, no_next, or_second}
+use Rattle.vdb_c.proofs.Places.{extent_is, place_at_most, reached, same_place}
 
 -- ---- tests
-
-fits : (m n : ℕ) → m ≤ n → nat_le m n ≡ true
-fits m n h = search (rules, tests)
 
 less : (m n : ℕ) → m < n → nat_lt m n ≡ true
 less m n h = search (rules, tests)
@@ -98,13 +97,6 @@ along_x f f' h h' g g' y z ef ey ez eh eg = omega (arith, row_end f h g f' y z e
 
 -- ---- numbers of voxels
 
--- an array without gaps has an element of its own for each voxel
-pub dense_apart : (b : Box) → IsTrue (are_apart b (dense b))
-dense_apart b =
-    let z = extent b.min.z b.max.z in
-    let y = extent b.min.y b.max.y in
-    rw (fits (z * 1) z (omega arith), fits (y * z) (y * z) (omega arith)) refl
-
 pub rank_min : (b : Box) (p : Coord) → p ≡ b.min → rank b p ≡ 0
 rank_min b p e = ap (rank b) e ∙ none (int_gap b.min.x b.min.x) (int_gap b.min.y b.min.y) (int_gap b.min.z b.min.z) (dense b).x (dense b).y 1 (gap_self b.min.x) (gap_self b.min.y) (gap_self b.min.z)
 
@@ -116,6 +108,21 @@ only_next b p m n h k = elim (which_before m n) [
   where
     never : (q : Coord) → IsBefore p q → IsBefore q p ⊎ (q ≡ p) → ⊥
     never q a c = elim c [ inl l ↦ before_not_past p q a l | inr e ↦ before_not_same p q a (sym e) ]
+
+-- an array without gaps has an element of its own for each voxel
+pub dense_apart : (b : Box) (p : Coord) → IsTrue (is_inside b p) → IsTrue (are_apart b (dense b))
+dense_apart b p inside =
+    let at = inside_parts b p inside in
+    let gy = int_gap b.min.y b.max.y in
+    let gz = int_gap b.min.z b.max.z in
+    let y : extent b.min.y b.max.y ≡ gy + 1 = gap_end b.min.y b.max.y b.max.y (le_le b.min.y p.y b.max.y at.1.0 at.1.1) (le_self b.max.y) (le_self b.max.y) in
+    let z : extent b.min.z b.max.z ≡ gz + 1 = gap_end b.min.z b.max.z b.max.z (le_le b.min.z p.z b.max.z at.2.0 at.2.1) (le_self b.max.z) (le_self b.max.z) in
+    let one : is_past (axis_z b (dense b)) 0 ≡ true = or_second (nat_eq gz 0) (nat_lt 0 1) refl in
+    let row : is_past (axis_y b (dense b)) (gz * 1) ≡ true = or_second (nat_eq gy 0) (nat_lt (gz * 1) (extent b.min.z b.max.z)) (less (gz * 1) (extent b.min.z b.max.z) (omega (arith, z))) in
+    let plane : is_past (axis_x b (dense b)) (gz * 1 + gy * extent b.min.z b.max.z) ≡ true =
+    or_second (nat_eq (int_gap b.min.x b.max.x) 0) (nat_lt (gz * 1 + gy * extent b.min.z b.max.z) (dense b).x)
+    (less (gz * 1 + gy * extent b.min.z b.max.z) (dense b).x (omega (arith, times_next (extent b.min.y b.max.y) gy (extent b.min.z b.max.z) y, z))) in
+    rw (one, row, plane) refl
 
 module _ (b : Box) (p : Coord) (inside : IsTrue (is_inside b p)) where
   -- the next voxel, with its number
@@ -174,20 +181,6 @@ module _ (b : Box) (p : Coord) (inside : IsTrue (is_inside b p)) where
   pub rank_next : (n : Coord) → IsNextVoxel b p (Some n) → rank b n ≡ rank b p + 1
   rank_next n h = let m = steps n h in ap (rank b) (only_next b p n m.0 h m.1) ∙ m.2
 
-  -- no number is above that of an element
-  pub rank_fits : (s : Strides) → IsTrue (are_apart b s) → rank b p ≤ place b s p
-  rank_fits s apart =
-      let h = strides b s apart in
-      let some : 0 < s.z = positive s.z h.0 in
-      let row : ez * 1 ≤ ez * s.z = mul-le ez 1 ez s.z (omega arith) (omega (arith, some)) in
-      let along : ez ≤ s.y = let room = at_most (ez * s.z) s.y h.1 in omega (arith, row, room) in
-      let plane : ey * ez ≤ ey * s.y = mul-le ey ez ey s.y (omega arith) along in
-      let across : ey * ez ≤ s.x = let room = at_most (ey * s.y) s.x h.2 in omega (arith, plane, room) in
-      sums (gx * (ey * ez)) (gx * s.x) (gy * ez) (gy * s.y) (gz * 1) (gz * s.z) (mul-le gx (ey * ez) gx s.x (omega arith) across) (mul-le gy ez gy s.y (omega arith) along) (mul-le gz 1 gz s.z (omega arith) (omega (arith, some)))
-    where
-      sums : (a a' c c' d d' : ℕ) → a ≤ a' → c ≤ c' → d ≤ d' → a + (c + d) ≤ a' + (c' + d')
-      sums a a' c c' d d' h k l = omega arith
-
   -- the last voxel
   max_inside : IsTrue (is_inside b b.max)
   max_inside =
@@ -201,6 +194,16 @@ module _ (b : Box) (p : Coord) (inside : IsTrue (is_inside b p)) where
       mul_assoc ex ey ez
       ∙ row_end (int_gap b.min.x b.max.x) (int_gap b.min.y b.max.y) (int_gap b.min.z b.max.z) ex ey ez (gap_end b.min.x b.max.x b.max.x at.0.0 at.0.1 (le_self b.max.x))
       (gap_end b.min.y b.max.y b.max.y at.1.0 at.1.1 (le_self b.max.y)) (gap_end b.min.z b.max.z b.max.z at.2.0 at.2.1 (le_self b.max.z))
+
+  -- no number is above the element of the greatest corner
+  pub rank_fits : (s : Strides) → IsTrue (are_apart b s) → rank b p ≤ place b s b.max
+  rank_fits s apart =
+      let at = inside_parts b b.max max_inside in
+      let x = gap_end b.min.x b.max.x b.max.x at.0.0 at.0.1 (le_self b.max.x) in
+      let y = gap_end b.min.y b.max.y b.max.y at.1.0 at.1.1 (le_self b.max.y) in
+      let z = gap_end b.min.z b.max.z b.max.z at.2.0 at.2.1 (le_self b.max.z) in
+      let size : volume b ≡ (int_gap b.min.x b.max.x + 1) * (int_gap b.min.y b.max.y + 1) * (int_gap b.min.z b.max.z + 1) = λ i. x i * y i * z i in
+      omega (arith, size, max_rank, place_at_most b (dense b) p inside, volume_within b s apart)
 
   pub rank_last : IsNextVoxel b p None → rank b p + 1 ≡ volume b
   rank_last last =
@@ -233,7 +236,7 @@ module _ (b : Box) (p : Coord) (inside : IsTrue (is_inside b p)) where
     where
       apart : IsTrue (is_inside b q) → rank b q ≢ n
       apart i h =
-          let same : p ≡ q = same_place b (dense b) (dense_apart b) p q inside i (sym (h ∙ e)) in
+          let same : p ≡ q = same_place b (dense b) (dense_apart b p inside) p q inside i (sym (h ∙ e)) in
           let never : false ≡ true = sym other ∙ subst (λ (r : Coord). coord_eq p r ≡ true) same (coord_equiv.refl p) in cc
 
       by : (c : Bool) → is_inside b q ≡ c → (c && nat_lt (rank b q) (n + 1)) ≡ (c && nat_lt (rank b q) n)

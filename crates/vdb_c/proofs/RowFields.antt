@@ -232,9 +232,7 @@ module _ (b : Box) (p : Coord) (inside : IsTrue (is_inside b p)) (change : Coord
   count_fits s apart reach =
       let i = last_inside b p inside in
       let q = along_z p (int_gap p.z b.max.z) in
-      let first = rank_fits b q i s apart in
-      let most = place_at_most b s q i in
-      sums (rank b q) (rank b p) (int_gap p.z b.max.z) count n (place b s q) (place b s b.max) (row_rank b p inside (int_gap p.z b.max.z)) number at_most first most reach
+      sums (rank b q) (rank b p) (int_gap p.z b.max.z) count n (place b s b.max) (row_rank b p inside (int_gap p.z b.max.z)) number at_most (rank_fits b q i s apart) reach
     where
-      sums : (a r g c m e top : ℕ) → a ≡ r + g → c ≡ r → m ≤ g + 1 → a ≤ e → e ≤ top → top + 1 < 2 ^ 64 → c + m < 2 ^ 64
-      sums a r g c m e top ea ec em l k t = omega (arith, ea, ec, em, l, k, t)
+      sums : (a r g c m top : ℕ) → a ≡ r + g → c ≡ r → m ≤ g + 1 → a ≤ top → top + 1 < 2 ^ 64 → c + m < 2 ^ 64
+      sums a r g c m top ea ec em l t = omega (arith, ea, ec, em, l, t)

@@ -1,18 +1,42 @@
 -- Arrays that have a box of voxels.
-use Rattle.std.specs.Prelude.{◌≡◌, ◌≢◌, ◌+◌, ◌*◌, ◌<◌, ◌||◌, ◌&&◌, ℕ, Bool, IsTrue, List, length, get_or, nat_eq, nat_le, nat_lt}
+use Rattle.std.specs.Prelude.{◌≡◌, ◌≢◌, ◌+◌, ◌*◌, ◌<◌, ◌||◌, ◌&&◌, ℕ, Bool, IsTrue, List, length, get_or, nat_eq, nat_lt}
 use Rattle.std.specs.Int.{int_gap}
-use Rattle.vdb_coord.specs.Space.{Box, extent}
+use Rattle.vdb_coord.specs.Space.{Box}
 use Rattle.vdb_coord.specs.declared.Coord.{Coord}
+use Rattle.vdb_c.specs.declared.boxes.elements.Axis.{Axis}
 use Rattle.vdb_c.specs.declared.boxes.elements.Strides.{Strides}
+
+-- how many elements lie from the least corner of a box to the greatest one along an axis
+abbrev pub span : Axis → ℕ
+span a = a.gap * a.stride
+
+-- whether a step along an axis passes this many elements, or the box is one voxel wide along it
+abbrev pub is_past : Axis → ℕ → Bool
+is_past a last = nat_eq a.gap 0 || nat_lt last a.stride
+
+-- whether a step along each axis passes all elements of the axes before it
+abbrev pub are_nested : Axis → Axis → Axis → Bool
+are_nested a b c = is_past a 0 && is_past b (span a) && is_past c (span a + span b)
 
 module _ (b : Box) (s : Strides) where
   -- the element of a voxel: along each axis as many strides past that of the least corner as it is voxels past it
   abbrev pub place : Coord → ℕ
   place p = int_gap b.min.x p.x * s.x + (int_gap b.min.y p.y * s.y + int_gap b.min.z p.z * s.z)
 
-  -- whether a row ends before the next one begins, and a plane, so that no two voxels share an element
+  -- the axes
+  abbrev pub axis_x : Axis
+  axis_x = record { gap = int_gap b.min.x b.max.x; stride = s.x }
+
+  abbrev pub axis_y : Axis
+  axis_y = record { gap = int_gap b.min.y b.max.y; stride = s.y }
+
+  abbrev pub axis_z : Axis
+  axis_z = record { gap = int_gap b.min.z b.max.z; stride = s.z }
+
+  -- whether the axes are nested in some order, so that no two voxels share an element
   abbrev pub are_apart : Bool
-  are_apart = nat_lt 0 s.z && nat_le (extent b.min.z b.max.z * s.z) s.y && nat_le (extent b.min.y b.max.y * s.y) s.x
+  are_apart =
+      are_nested axis_z axis_y axis_x || are_nested axis_y axis_z axis_x || are_nested axis_z axis_x axis_y || are_nested axis_x axis_z axis_y || are_nested axis_y axis_x axis_z || are_nested axis_x axis_y axis_z
 
   -- whether an array of this length has an element for each voxel, or is empty
   abbrev pub has_places : ℕ → Bool

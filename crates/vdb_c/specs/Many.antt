@@ -12,7 +12,7 @@ use Rattle.vdb_scene.specs.declared.scalar.Scalar.{Scalar}
 use Rattle.vdb_value.specs.declared.Kind.{Kind}
 use Rattle.vdb_c.specs.Calls.{IsWrittenIn, write_of}
 use Rattle.vdb_c.specs.Codes.{done, out_of_range, tree_code}
-use Rattle.vdb_c.specs.Values.{accessor_of, byte_is_on, corner_coord, state_byte, value_number, value_of}
+use Rattle.vdb_c.specs.Values.{accessor_of, bool_byte, byte_is_on, corner_coord, state_byte, value_number, value_of}
 use Rattle.vdb_c.specs.declared.values.Corner.{Corner}
 
 -- whether an array has an element for each of these voxels, or none
@@ -26,6 +26,9 @@ accessor_beside number count values states = if is_beside count values && is_bes
 -- the value and the state of a field at a voxel, as they cross to C
 abbrev pub number_at : Field Scalar → Coord → ℤ
 number_at f p = value_number (f.cell p).value
+
+abbrev pub bool_at : Field Scalar → Coord → ℕ
+bool_at f p = bool_byte (f.cell p).value
 
 abbrev pub byte_at : Field Scalar → Coord → ℕ
 byte_at f p = state_byte (f.cell p).on

@@ -45,6 +45,11 @@ value_number (scalars.Bool b) = state_number b
 value_number (scalars.I32 n) = n
 value_number (scalars.I64 n) = n
 
+-- a boolean as a byte; values of other types have none
+abbrev pub bool_byte : Scalar → ℕ
+bool_byte (scalars.Bool b) = state_byte b
+bool_byte _ = 0
+
 -- the value of a number, if the type has it
 abbrev pub value_of : Kind → ℤ → Option Scalar
 value_of kinds.Bool n = if int_eq n (pos 0) then Some (scalars.Bool false) else if int_eq n (pos 1) then Some (scalars.Bool true) else None

@@ -23,6 +23,11 @@ abbrev pub IsShared : Option AnyGrid → Option View → Option View → ℤ →
 IsShared None old new code = (code ≡ empty) × (new ≡ old)
 IsShared (Some g) old new code = ((code ≡ done) × (shown new ≡ Some g)) ⊎ ((code ≡ memory) × (new ≡ old))
 
+-- the grid of a view became a handle's, or it has other views, or there is no grid
+abbrev pub IsTaken : Option AnyGrid → Option View → Option View → Option AnyGrid → Option AnyGrid → ℤ → Type 0
+IsTaken None old kept held new code = (code ≡ empty) × (kept ≡ old) × (new ≡ held)
+IsTaken (Some g) old kept held new code = ((code ≡ done) × (kept ≡ None) × (new ≡ Some g)) ⊎ ((code ≡ out_of_range) × (kept ≡ old) × (new ≡ held))
+
 -- a call that reads the grid of a view: an empty view changes nothing
 abbrev pub OnView : Option AnyGrid → ℤ → Type 0 → (AnyGrid → Type 0) → Type 0
 OnView None code kept call = (code ≡ empty) × kept

@@ -2,17 +2,18 @@
 ghost use Rattle.std.specs.Prelude.{◌≡◌, None, length, negsuc};
 ghost use Rattle.vdb_coord.specs.Space.{coord, is_inside};
 ghost use Rattle.vdb_scene.specs.Grids.{grid_field};
-ghost use Rattle.vdb_c.specs.BoxArrays.{box_beside};
+ghost use Rattle.vdb_value.specs.declared.Kind.TheVariants as kinds;
+ghost use Rattle.vdb_c.specs.BoxArrays.{ReadsBoxOf, box_beside};
 ghost use Rattle.vdb_c.specs.Calls.{IsCopied};
 ghost use Rattle.vdb_c.specs.Elements.{IsLaid};
-ghost use Rattle.vdb_c.specs.Many.{IsReadAt, accessor_beside, byte_at, number_at};
+ghost use Rattle.vdb_c.specs.Many.{IsReadAt, accessor_beside, bool_at, byte_at, number_at};
 ghost use Rattle.vdb_c.specs.Values.{state_number as number_of_state, value_number as number_of_value};
-ghost use Rattle.vdb_c.specs.Views.{IsShared, IsShown, OnShown, OnShownIf, shown};
+ghost use Rattle.vdb_c.specs.Views.{IsShared, IsShown, IsTaken, OnShown, OnShownIf, OnView, shown};
 
 pub(crate) mod reports;
 pub(crate) mod walks;
 
-use crate::boxes::arrays::{bounds_beside, read};
+use crate::boxes::arrays::{bounds_beside, read, read_bool, read_i32};
 use crate::boxes::elements::Strides;
 use crate::codes::{DONE, EMPTY, MEMORY, OUT_OF_RANGE};
 use crate::handles::GridHandle;
@@ -108,6 +109,31 @@ pub extern "C" fn vdb_view_copy(alloc: Global, from: &mut ViewHandle, to: &mut G
     DONE
 }
 
+/// Moves the grid of its last view back into a handle, whose grid it replaces. The view's handle is empty then. No cell is copied.
+#[unsafe(no_mangle)]
+pub extern "C" fn vdb_view_take(alloc: Global, from: &mut ViewHandle, to: &mut GridHandle) -> i32
+    ensures { IsTaken (shown from.old.view.held) from.old.view.held from.new.view.held to.old.grid.held to.new.grid.held result }
+{
+    let Some(mut view) = from.view.take(alloc) else {
+        return EMPTY;
+    };
+    let Some(grid) = view.grid.take() else {
+        from.view.put(alloc, view);
+        return EMPTY;
+    };
+    match Arc::try_unwrap(grid) {
+        Ok(grid) => {
+            to.grid.put(alloc, grid);
+            DONE
+        }
+        Err(grid) => {
+            view.grid = Some(grid);
+            from.view.put(alloc, view);
+            OUT_OF_RANGE
+        }
+    }
+}
+
 /// Frees the handle's view, if it has one, and the grid with its last view. The handle is empty then.
 #[unsafe(no_mangle)]
 pub extern "C" fn vdb_view_free(alloc: Global, handle: &mut ViewHandle)
@@ -201,6 +227,58 @@ pub extern "C" fn vdb_view_read_box(
             read(grid, bounds, strides, values, states, &mut handle.steps);
             DONE
         }
+    };
+    handle.view.put(alloc, view);
+    code
+}
+
+/// Writes the value and the state of each voxel of a box of a grid of booleans to its elements of `values` and `states`, as
+/// `vdb_grid_read_box_bool` does.
+#[unsafe(no_mangle)]
+pub extern "C" fn vdb_view_read_box_bool(
+    alloc: Global,
+    handle: &mut ViewHandle,
+    corners: &Corners,
+    strides: &Strides,
+    values: &mut [u8],
+    states: &mut [u8],
+) -> i32
+    ensures same { handle.new.view.held ≡ handle.old.view.held }
+    ensures read { OnView (shown handle.old.view.held) result ((values.new ≡ values.old) × (states.new ≡ states.old)) (λ g.
+        ReadsBoxOf kinds.Bool bool_at corners.now strides.now g values.old values.new states.old states.new result) }
+{
+    let Some(view) = handle.view.take(alloc) else {
+        return EMPTY;
+    };
+    let code = match &view.grid {
+        Some(grid) => read_bool(grid, corners, strides, values, states, &mut handle.steps),
+        None => EMPTY,
+    };
+    handle.view.put(alloc, view);
+    code
+}
+
+/// Writes the value and the state of each voxel of a box of a grid of numbers of 32 bits to its elements of `values` and `states`, as
+/// `vdb_grid_read_box_i32` does.
+#[unsafe(no_mangle)]
+pub extern "C" fn vdb_view_read_box_i32(
+    alloc: Global,
+    handle: &mut ViewHandle,
+    corners: &Corners,
+    strides: &Strides,
+    values: &mut [i32],
+    states: &mut [u8],
+) -> i32
+    ensures same { handle.new.view.held ≡ handle.old.view.held }
+    ensures read { OnView (shown handle.old.view.held) result ((values.new ≡ values.old) × (states.new ≡ states.old)) (λ g.
+        ReadsBoxOf kinds.I32 number_at corners.now strides.now g values.old values.new states.old states.new result) }
+{
+    let Some(view) = handle.view.take(alloc) else {
+        return EMPTY;
+    };
+    let code = match &view.grid {
+        Some(grid) => read_i32(grid, corners, strides, values, states, &mut handle.steps),
+        None => EMPTY,
     };
     handle.view.put(alloc, view);
     code

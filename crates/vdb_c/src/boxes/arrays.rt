@@ -2,14 +2,15 @@
 ghost use Rattle.std.specs.Prelude.{◌≡◌, IfSome, IsTrue, length};
 ghost use Rattle.vdb_coord.specs.Space.{is_inside};
 ghost use Rattle.vdb_scene.specs.Grids.{grid_field};
-ghost use Rattle.vdb_c.specs.BoxArrays.{box_beside};
+ghost use Rattle.vdb_value.specs.declared.Kind.TheVariants as kinds;
+ghost use Rattle.vdb_c.specs.BoxArrays.{ReadsBoxOf, box_beside};
 ghost use Rattle.vdb_c.specs.Calls.{OnHeld, OnValid, Reads};
 ghost use Rattle.vdb_c.specs.Elements.{IsLaid, are_apart as are_voxels_apart, has_places as has_a_place};
-ghost use Rattle.vdb_c.specs.Many.{byte_at, number_at};
+ghost use Rattle.vdb_c.specs.Many.{bool_at, byte_at, number_at};
 
 use crate::boxes::elements::{Strides, are_apart, has_places};
-use crate::boxes::reading::read_box;
-use crate::codes::{DONE, EMPTY, OUT_OF_RANGE};
+use crate::boxes::reading::{AsByte, AsNumber, AsValue, read_box};
+use crate::codes::{DONE, EMPTY, OTHER_KIND, OUT_OF_RANGE};
 use crate::handles::GridHandle;
 use crate::values::{Corners, bounds};
 use vdb_coord::Bounds;
@@ -38,6 +39,44 @@ pub extern "C" fn vdb_grid_read_box(
     };
     read(grid, bounds, strides, values, states, &mut handle.steps);
     DONE
+}
+
+/// Writes the value of each voxel of a box of a grid of booleans to its elements of `values`, 1 for true and 0 for false, and the
+/// state to its elements of `states`, as `vdb_grid_read_box` does.
+#[unsafe(no_mangle)]
+pub extern "C" fn vdb_grid_read_box_bool(
+    handle: &mut GridHandle,
+    corners: &Corners,
+    strides: &Strides,
+    values: &mut [u8],
+    states: &mut [u8],
+) -> i32
+    ensures { OnHeld handle.old.grid.held handle.new.grid.held result ((values.new ≡ values.old) × (states.new ≡ states.old)) (λ g h. (h ≡ g)
+        × ReadsBoxOf kinds.Bool bool_at corners.now strides.now g values.old values.new states.old states.new result) }
+{
+    let Some(grid) = handle.grid.grid_mut() else {
+        return EMPTY;
+    };
+    read_bool(grid, corners, strides, values, states, &mut handle.steps)
+}
+
+/// Writes the value and the state of each voxel of a box of a grid of numbers of 32 bits to its elements of `values` and `states`, as
+/// `vdb_grid_read_box` does.
+#[unsafe(no_mangle)]
+pub extern "C" fn vdb_grid_read_box_i32(
+    handle: &mut GridHandle,
+    corners: &Corners,
+    strides: &Strides,
+    values: &mut [i32],
+    states: &mut [u8],
+) -> i32
+    ensures { OnHeld handle.old.grid.held handle.new.grid.held result ((values.new ≡ values.old) × (states.new ≡ states.old)) (λ g h. (h ≡ g)
+        × ReadsBoxOf kinds.I32 number_at corners.now strides.now g values.old values.new states.old states.new result) }
+{
+    let Some(grid) = handle.grid.grid_mut() else {
+        return EMPTY;
+    };
+    read_i32(grid, corners, strides, values, states, &mut handle.steps)
 }
 
 /// Returns the box of two corners: `None` if they aren't in order, or an array doesn't fit the box.
@@ -78,8 +117,66 @@ pub(crate) fn read(
 {
     let _ = bounds.min(); // the proof learns from it that each voxel is in range
     match grid {
-        AnyGrid::Bool(held) => read_box(held.tree(), bounds, strides, values, states, steps),
-        AnyGrid::I32(held) => read_box(held.tree(), bounds, strides, values, states, steps),
-        AnyGrid::I64(held) => read_box(held.tree(), bounds, strides, values, states, steps),
+        AnyGrid::Bool(held) => {
+            read_box::<bool, i64, AsNumber>(held.tree(), bounds, strides, values, states, steps)
+        }
+        AnyGrid::I32(held) => {
+            read_box::<i32, i64, AsNumber>(held.tree(), bounds, strides, values, states, steps)
+        }
+        AnyGrid::I64(held) => {
+            read_box::<i64, i64, AsValue>(held.tree(), bounds, strides, values, states, steps)
+        }
+    }
+}
+
+/// Writes the value and the state of each voxel of a box of a grid of booleans to its elements.
+#[tactic(auto, unfolding(crate::specs::BoxArrays::ReadsBoxOf))]
+pub(crate) fn read_bool(
+    grid: &AnyGrid,
+    corners: &Corners,
+    strides: &Strides,
+    values: &mut [u8],
+    states: &mut [u8],
+    steps: &mut Steps,
+) -> i32
+    ensures { ReadsBoxOf kinds.Bool bool_at corners.now strides.now grid.now values.old values.new states.old states.new result }
+{
+    let Some(bounds) = bounds_beside(corners, strides, values.len(), states.len()) else {
+        return OUT_OF_RANGE;
+    };
+    let _ = bounds.min(); // the proof learns from it that each voxel is in range
+    match grid {
+        AnyGrid::Bool(held) => {
+            read_box::<bool, u8, AsByte>(held.tree(), bounds, strides, values, states, steps);
+            DONE
+        }
+        AnyGrid::I32(_) => OTHER_KIND,
+        AnyGrid::I64(_) => OTHER_KIND,
+    }
+}
+
+/// Writes the value and the state of each voxel of a box of a grid of numbers of 32 bits to its elements.
+#[tactic(auto, unfolding(crate::specs::BoxArrays::ReadsBoxOf))]
+pub(crate) fn read_i32(
+    grid: &AnyGrid,
+    corners: &Corners,
+    strides: &Strides,
+    values: &mut [i32],
+    states: &mut [u8],
+    steps: &mut Steps,
+) -> i32
+    ensures { ReadsBoxOf kinds.I32 number_at corners.now strides.now grid.now values.old values.new states.old states.new result }
+{
+    let Some(bounds) = bounds_beside(corners, strides, values.len(), states.len()) else {
+        return OUT_OF_RANGE;
+    };
+    let _ = bounds.min(); // the proof learns from it that each voxel is in range
+    match grid {
+        AnyGrid::I32(held) => {
+            read_box::<i32, i32, AsValue>(held.tree(), bounds, strides, values, states, steps);
+            DONE
+        }
+        AnyGrid::Bool(_) => OTHER_KIND,
+        AnyGrid::I64(_) => OTHER_KIND,
     }
 }

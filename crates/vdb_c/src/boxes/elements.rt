@@ -1,8 +1,8 @@
 //! The elements of the voxels of a box in an array.
 ghost use Rattle.std.specs.Int.{int_gap};
-ghost use Rattle.std.specs.Prelude.{◌≡◌, ◌*◌, ◌<◌, ◌≤◌, ◌^◌, IsTrue, int_le};
+ghost use Rattle.std.specs.Prelude.{◌≡◌, ◌*◌, ◌<◌, ◌^◌, IsTrue, int_le};
 ghost use Rattle.vdb_coord.specs.Space.{is_inside};
-ghost use Rattle.vdb_c.specs.Elements.{are_apart as are_voxels_apart, has_places as has_a_place, place as place_of};
+ghost use Rattle.vdb_c.specs.Elements.{are_apart as are_voxels_apart, are_nested as are_axes_nested, axis_x, axis_y, axis_z, has_places as has_a_place, is_past as is_axis_past, place as place_of, span as span_of};
 
 use vdb_coord::{Bounds, Coord};
 
@@ -13,6 +13,13 @@ pub struct Strides {
     pub x: usize,
     pub y: usize,
     pub z: usize,
+}
+
+/// How far the greatest corner of a box is past the least one along an axis, and the stride along it.
+#[derive(Clone, Copy)]
+pub(crate) struct Axis {
+    pub gap: usize,
+    pub stride: usize,
 }
 
 /// Returns the element of a voxel.
@@ -47,43 +54,74 @@ pub(crate) fn gap(from: i32, to: i32) -> usize
     to.abs_diff(from) as usize
 }
 
-/// Returns whether a row of the box ends before the next one begins, and a plane, so that no two voxels share an element.
+/// Returns the axes of a box of an array: x, y and z.
+fn axes(bounds: Bounds, strides: &Strides) -> (Axis, Axis, Axis)
+    ensures x { result.0 ≡ axis_x bounds strides.now }
+    ensures y { result.1 ≡ axis_y bounds strides.now }
+    ensures z { result.2 ≡ axis_z bounds strides.now }
+    ensures small { (result.0.gap < 2 ^ 32) × (result.1.gap < 2 ^ 32) × (result.2.gap < 2 ^ 32) }
+{
+    let min = bounds.min();
+    let (dx, dy, dz) = gaps(min, bounds.max());
+    let x = Axis {
+        gap: dx,
+        stride: strides.x,
+    };
+    let y = Axis {
+        gap: dy,
+        stride: strides.y,
+    };
+    let z = Axis {
+        gap: dz,
+        stride: strides.z,
+    };
+    (x, y, z)
+}
+
+/// Returns how many elements lie from the least corner to the greatest one along an axis.
+fn span(axis: Axis) -> u128
+    requires { axis.gap < 2 ^ 32 }
+    ensures value { result ≡ span_of axis }
+    ensures small { result < 2 ^ 100 }
+{
+    axis.gap as u128 * axis.stride as u128
+}
+
+/// Returns whether a step along an axis passes this many elements, or the box is one voxel wide along it.
+fn is_past(axis: Axis, last: u128) -> bool
+    ensures { result ≡ is_axis_past axis last }
+{
+    axis.gap == 0 || last < axis.stride as u128
+}
+
+/// Returns whether a step along each axis passes all elements of the axes before it.
+fn are_nested(a: Axis, b: Axis, c: Axis) -> bool
+    requires { (a.gap < 2 ^ 32) × (b.gap < 2 ^ 32) }
+    ensures { result ≡ are_axes_nested a b c }
+{
+    let first = span(a);
+    let both = first + span(b);
+    is_past(a, 0) && is_past(b, first) && is_past(c, both)
+}
+
+/// Returns whether the axes are nested in some order, so that no two voxels of the box share an element.
 pub(crate) fn are_apart(bounds: Bounds, strides: &Strides) -> bool
     ensures { result ≡ are_voxels_apart bounds strides.now }
 {
-    let min = bounds.min();
-    let (_, dy, dz) = gaps(min, bounds.max());
-    let row = product(dz + 1, strides.z);
-    let plane = product(dy + 1, strides.y);
-    if strides.z == 0 {
-        return false;
-    }
-    if row > strides.y as u128 {
-        return false;
-    }
-    plane <= strides.x as u128
+    let (x, y, z) = axes(bounds, strides);
+    are_nested(z, y, x)
+        || are_nested(y, z, x)
+        || are_nested(z, x, y)
+        || are_nested(x, z, y)
+        || are_nested(y, x, z)
+        || are_nested(x, y, z)
 }
 
 /// Returns whether an array of this length has an element for each voxel of the box, or is empty.
 pub(crate) fn has_places(bounds: Bounds, strides: &Strides, len: usize) -> bool
     ensures { result ≡ has_a_place bounds strides.now len }
 {
-    let min = bounds.min();
-    let (dx, dy, dz) = gaps(min, bounds.max());
-    let x = product(dx, strides.x);
-    let y = product(dy, strides.y);
-    let z = product(dz, strides.z);
-    if len == 0 {
-        return true;
-    }
-    x + (y + z) < len as u128
-}
-
-/// Returns a product of two numbers, the first of which is at most 2^32.
-fn product(count: usize, stride: usize) -> u128
-    requires { count ≤ 2 ^ 32 }
-    ensures value { result ≡ count * stride }
-    ensures small { result < 2 ^ 100 }
-{
-    count as u128 * stride as u128
+    let (x, y, z) = axes(bounds, strides);
+    let last = span(x) + (span(y) + span(z));
+    len == 0 || last < len as u128
 }

@@ -1,6 +1,6 @@
 //! Values of a tree as numbers of 64 bits.
 ghost use Rattle.std.specs.Option.{option_map};
-ghost use Rattle.std.specs.Prelude.{◌≡◌, ◌+◌, ◌<◌, ◌≤◌, ℕ, ℤ, pos, if◌then◌else◌, length, slice_index_or};
+ghost use Rattle.std.specs.Prelude.{◌≡◌, ◌<◌, ℕ, ℤ, pos, if◌then◌else◌, length, slice_index_or};
 ghost use Rattle.vdb_node.specs.Leaf.{cell_in};
 ghost use Rattle.vdb_value.specs.declared.Cell.{Cell};
 ghost use Rattle.vdb_c.specs.Values.{value_of};
@@ -26,12 +26,6 @@ pub(crate) trait Number: GridValue {
         requires { length into.old ≡ 512 }
         ensures length { length into.new ≡ 512 }
         ensures numbers { (d : Cell Self) (i : ℕ) (e : ℤ) → i < 512 → slice_index_or into.new i e ≡ number_of (cell_in d leaf.now i).value };
-
-    /// Copies the values of a leaf from the entry of this index on as numbers to a slice: those of a row along z, as a rule.
-    fn copy_numbers_from(leaf: &Leaf<Self, 3, 8>, from: u32, into: &mut [i64])
-        requires { from + length into.old ≤ 512 }
-        ensures length { length into.new ≡ length into.old }
-        ensures numbers { (d : Cell Self) (i : ℕ) (e : ℤ) → i < length into.old → slice_index_or into.new i e ≡ number_of (cell_in d leaf.now (from + i)).value };
 }
 
 impl Number for bool {
@@ -60,13 +54,6 @@ impl Number for bool {
             into[i] = if values[i] { 1 } else { 0 };
         }
     }
-
-    fn copy_numbers_from(leaf: &Leaf<bool, 3, 8>, from: u32, into: &mut [i64]) {
-        for i in 0..into.len() {
-            let cell = leaf.entry(from + i as u32);
-            into[i] = if cell.value { 1 } else { 0 };
-        }
-    }
 }
 
 impl Number for i32 {
@@ -89,13 +76,6 @@ impl Number for i32 {
             into[i] = i64::from(values[i]);
         }
     }
-
-    fn copy_numbers_from(leaf: &Leaf<i32, 3, 8>, from: u32, into: &mut [i64]) {
-        for i in 0..into.len() {
-            let cell = leaf.entry(from + i as u32);
-            into[i] = i64::from(cell.value);
-        }
-    }
 }
 
 impl Number for i64 {
@@ -113,14 +93,5 @@ impl Number for i64 {
 
     fn copy_numbers(leaf: &Leaf<i64, 3, 8>, into: &mut [i64]) {
         leaf.copy_values(0, into);
-    }
-
-    #[inline(always)]
-    fn copy_numbers_from(leaf: &Leaf<i64, 3, 8>, from: u32, into: &mut [i64]) {
-        if into.len() == 8 {
-            leaf.copy_values(from, &mut into[..8]); // a length that the compiler knows: four moves and no call
-        } else {
-            leaf.copy_values(from, into);
-        }
     }
 }

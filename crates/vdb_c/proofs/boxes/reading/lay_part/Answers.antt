@@ -1,16 +1,12 @@
 use Rattle.std.proofs.Common.{rules}
+use Rattle.vdb_c.proofs.Common.{subst, sym, is_inside, cell_in, vdb, content_cell, IsLaid}
 use Rattle.vdb_c.proofs.Laid.{laid_empty}
-use Rattle.vdb_c.proofs.boxes.reading.lay_part.Goals.{then-values-ne0, else-values-ne0}
 use Rattle.vdb_c.proofs.boxes.reading.lay_part.Goals as goal
 
-pub returns-then-states-ne0-clause-values : goal.returns-then-states-ne0-clause-values
-returns-then-states-ne0-clause-values g c = λ d. elim c.if-values-ne0.branch [
-  | then-values-ne0 w ↦ rw w.values-is (w.lay_values.ensures d)
-  | else-values-ne0 w ↦ rw w.values-is (laid_empty _ _ _ _ _ (search rules))
-]
+pub returns-then-out-eq0 : goal.returns-then-out-eq0
+returns-then-out-eq0 g c = λ d. laid_empty _ _ _ _ _ (search rules)
 
-pub returns-else-states-ne0-clause-values : goal.returns-else-states-ne0-clause-values
-returns-else-states-ne0-clause-values g c = λ d. elim c.if-values-ne0.branch [
-  | then-values-ne0 w ↦ rw w.values-is (w.lay_values.ensures d)
-  | else-values-ne0 w ↦ rw w.values-is (laid_empty _ _ _ _ _ (search rules))
-]
+pub returns-in-Leaf : goal.returns-in-Leaf
+returns-in-Leaf g c = λ d.
+    subst (λ content. IsLaid c.args.bounds c.args.strides.now (is_inside c.args.part) (λ p. g.S.Shown.of (content_cell vdb (λ leaf. cell_in d leaf.now) content p)) c.args.out.now c.lay_rows.new.out) (sym c.in-Leaf.is)
+    (c.lay_rows.ensures d)

@@ -22,13 +22,13 @@ offset_bounds-out-first g c =
     let room = row_room c.args.bounds c.args.strides.now c.requires.apart c.requires.along c.args.part c.requires.within c.requires.block c.rows.p c.rows.invariant.inside c.args.out.now c.rows.out c.requires.places c.rows.invariant.size
     c.place-first.result c.row_size.result c.place-first.ensures c.row_size.ensures.value in search rules
 
-pub slice_bounds-copy_numbers_from-end : goal.slice_bounds-copy_numbers_from-end
-slice_bounds-copy_numbers_from-end g c =
+pub slice_bounds-copy_row-end : goal.slice_bounds-copy_row-end
+slice_bounds-copy_row-end g c =
     let room = row_room c.args.bounds c.args.strides.now c.requires.apart c.requires.along c.args.part c.requires.within c.requires.block c.rows.p c.rows.invariant.inside c.args.out.now c.rows.out c.requires.places c.rows.invariant.size
     c.place-first.result c.row_size.result c.place-first.ensures c.row_size.ensures.value in search rules
 
-pub copy_numbers_from-requires : goal.copy_numbers_from-requires
-copy_numbers_from-requires g c = row_in_leaf c.args.bounds c.args.strides.now c.requires.apart c.requires.along c.args.part c.requires.within c.requires.block c.rows.p c.rows.invariant.inside c.args.out.now c.rows.out c.requires.places c.rows.invariant.size
+pub copy_row-requires : goal.copy_row-requires
+copy_row-requires g c = row_in_leaf c.args.bounds c.args.strides.now c.requires.apart c.requires.along c.args.part c.requires.within c.requires.block c.rows.p c.rows.invariant.inside c.args.out.now c.rows.out c.requires.places c.rows.invariant.size
     c.place-first.result c.row_size.result c.place-first.ensures c.row_size.ensures.value c.offset.result c.offset.ensures.value
 
 pub rows-smaller : goal.rows-smaller
@@ -42,11 +42,11 @@ pub rows-preserved : goal.rows-preserved
 rows-preserved g c = record {
   inside = c.in-Some.ensures.next.0;
   size = row_keeps_size c.args.bounds c.args.strides.now c.requires.apart c.requires.along c.args.part c.requires.within c.requires.block c.rows.p c.rows.invariant.inside c.args.out.now c.rows.out c.requires.places c.rows.invariant.size
-      c.place-first.result c.row_size.result c.place-first.ensures c.row_size.ensures.value c.offset.result c.offset.ensures.value c.copy_numbers_from.new.into c.copy_numbers_from.ensures.length;
+      c.place-first.result c.row_size.result c.place-first.ensures c.row_size.ensures.value c.offset.result c.offset.ensures.value c.copy_row.new.into c.copy_row.ensures.length;
   laid = λ d. rows_next c.args.bounds c.args.strides.now c.args.part _ c.row_end.result c.row_end.ensures.inside c.args.out.now _
       (row_copied c.args.bounds c.args.strides.now c.requires.apart c.requires.along c.args.part c.requires.within c.requires.block c.rows.p c.rows.invariant.inside c.args.out.now c.rows.out c.requires.places c.rows.invariant.size
-      c.place-first.result c.row_size.result c.place-first.ensures c.row_size.ensures.value c.offset.result c.offset.ensures.value c.copy_numbers_from.new.into c.copy_numbers_from.ensures.length
-      (λ i. g.V.Number.number_of (cell_in d c.args.leaf.now i).value) (c.copy_numbers_from.ensures.numbers d) c.row_end.result c.row_end.ensures.value (c.rows.invariant.laid d))
+      c.place-first.result c.row_size.result c.place-first.ensures c.row_size.ensures.value c.offset.result c.offset.ensures.value c.copy_row.new.into c.copy_row.ensures.length
+      (λ i. g.S.Shown.of (cell_in d c.args.leaf.now i)) (c.copy_row.ensures.elements d) c.row_end.result c.row_end.ensures.value (c.rows.invariant.laid d))
       c.in-Some.next c.in-Some.ensures.next;
 }
 
@@ -54,6 +54,6 @@ pub returns-in-None : goal.returns-in-None
 returns-in-None g c = λ d.
     rows_all c.args.bounds c.args.strides.now c.args.part _ c.row_end.result c.row_end.ensures.inside c.args.out.now _
     (row_copied c.args.bounds c.args.strides.now c.requires.apart c.requires.along c.args.part c.requires.within c.requires.block c.rows.p c.rows.invariant.inside c.args.out.now c.rows.out c.requires.places c.rows.invariant.size
-    c.place-first.result c.row_size.result c.place-first.ensures c.row_size.ensures.value c.offset.result c.offset.ensures.value c.copy_numbers_from.new.into c.copy_numbers_from.ensures.length
-    (λ i. g.V.Number.number_of (cell_in d c.args.leaf.now i).value) (c.copy_numbers_from.ensures.numbers d) c.row_end.result c.row_end.ensures.value (c.rows.invariant.laid d))
+    c.place-first.result c.row_size.result c.place-first.ensures c.row_size.ensures.value c.offset.result c.offset.ensures.value c.copy_row.new.into c.copy_row.ensures.length
+    (λ i. g.S.Shown.of (cell_in d c.args.leaf.now i)) (c.copy_row.ensures.elements d) c.row_end.result c.row_end.ensures.value (c.rows.invariant.laid d))
     c.in-None.ensures.next

@@ -6,7 +6,7 @@ abbrev pub invariant-rows : goal.invariant-rows
 invariant-rows g l = record {
   inside : IsTrue (is_inside l.part l.p);
   size : length l.out ≡ length l.fn.out;
-  laid : (d : Cell g.row.V.Denot) → IsLaid l.bounds l.strides (is_first l.part (rank l.part l.p)) (λ q. g.V.Number.number_of (cell_in d l.leaf (offset vdb leaf_level q)).value) l.fn.out l.out;
+  laid : (d : Cell g.row.V.Denot) → IsLaid l.bounds l.strides (is_first l.part (rank l.part l.p)) (λ q. g.S.Shown.of (cell_in d l.leaf (offset vdb leaf_level q))) l.fn.out l.out;
 }
 
 abbrev pub decreases-rows : goal.decreases-rows

@@ -18,7 +18,7 @@ returns-then-is_in_root_block-clause-states g c = laid_none _ _ _ _ _ (λ p. and
 
 pub returns-clause-values : goal.returns-clause-values
 returns-clause-values g c =
-    laid_within _ _ _ _ _ _ _ (λ p. and_true _) (laid_same _ _ _ _ _ _ _ (λ p i. ap g.V.Number.number_of c.background.ensures) (c.lay_part.ensures.values (off c.background.result)))
+    laid_within _ _ _ _ _ _ _ (λ p. and_true _) (laid_same _ _ _ _ _ _ _ (λ p i. ap (λ v. g.S.Shown.of (off v)) c.background.ensures) (c.lay_part.ensures (off c.background.result)))
 
 pub returns-clause-states : goal.returns-clause-states
-returns-clause-states g c = laid_within _ _ _ _ _ _ _ (λ p. and_true _) (c.lay_part.ensures.states (off c.background.result))
+returns-clause-states g c = laid_within _ _ _ _ _ _ _ (λ p. and_true _) (c.lay_part-2.ensures (off c.background.result))

@@ -54,7 +54,7 @@ row-preserved g c =
     let z : SFits w32 c.row.p.z = search rules in
     let end : SFits w32 c.max-max.result.z = search rules in
     let h = c.row.invariant.0 in
-    let read = λ (d : Cell g.row.V.Denot). c.of.ensures ∙ ap g.T.Element.of (sym (c.cell_at.ensures d)) in
+    let read = λ (d : Cell g.row.V.Denot). c.of.ensures ∙ ap g.S.Shown.of (sym (c.cell_at.ensures d)) in
     let next = moved c.args.part p m h.inside x y z end c.max-max.ensures.corner c.row-test.true in
     let along = next_along c.args.bounds c.args.strides.now c.args.part c.requires.within p h.inside (further c.args.part p m h.inside x y z end c.max-max.ensures.corner c.row-test.true) c.requires.reach c.row.index h.at in (
       laid_on c.args.bounds c.args.strides.now c.args.part _ c.requires.apart c.requires.within m p c.row.index c.args.out.now c.row.out c.store.new.out h c.of.result read c.store.ensures
@@ -67,12 +67,12 @@ place-index-requires-in-Some-clause-inside g c = c.requires.within c.in-Some.nex
 
 pub rows-preserved : goal.rows-preserved
 rows-preserved g c =
-    let read = λ (d : Cell g.row.V.Denot). c.of-in-rows.ensures ∙ ap g.T.Element.of (sym (c.cell_at-in-rows.ensures d)) in
+    let read = λ (d : Cell g.row.V.Denot). c.of-in-rows.ensures ∙ ap g.S.Shown.of (sym (c.cell_at-in-rows.ensures d)) in
     laid_on c.args.bounds c.args.strides.now c.args.part _ c.requires.apart c.requires.within c.max-max.result c.row.p c.row.index c.args.out.now c.row.out c.store-in-rows.new.out c.row.invariant.0 c.of-in-rows.result read c.store-in-rows.ensures
     c.in-Some.next c.place-index-in-Some.result c.in-Some.ensures.next c.place-index-in-Some.ensures
 
 pub returns-in-None : goal.returns-in-None
 returns-in-None g c =
-    let read = λ (d : Cell g.row.V.Denot). c.of-in-rows.ensures ∙ ap g.T.Element.of (sym (c.cell_at-in-rows.ensures d)) in
+    let read = λ (d : Cell g.row.V.Denot). c.of-in-rows.ensures ∙ ap g.S.Shown.of (sym (c.cell_at-in-rows.ensures d)) in
     laid_last c.args.bounds c.args.strides.now c.args.part _ c.requires.apart c.requires.within c.max-max.result c.row.p c.row.index c.args.out.now c.row.out c.store-in-rows.new.out c.row.invariant.0 c.of-in-rows.result read c.store-in-rows.ensures
     c.in-None.ensures.next

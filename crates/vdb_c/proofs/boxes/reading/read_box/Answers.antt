@@ -13,7 +13,7 @@ rest-init g c =
       walk = c.parts-walk.ensures.walk;
       box = c.parts-walk.ensures.bounds;
       skip = c.parts-walk.ensures.skip;
-      values = read_start t b s (λ (a : Cell g.row.V.Denot). g.V.Number.number_of a.value) there.result there.ensures.there _ _ _ _ c.parts-walk.ensures.at (λ p. refl) there.ensures.values;
+      values = read_start t b s g.S.Shown.of there.result there.ensures.there _ _ _ _ c.parts-walk.ensures.at (λ p. refl) there.ensures.values;
       states = read_start t b s (λ (a : Cell g.row.V.Denot). state_byte a.on) there.result there.ensures.there _ _ _ _ c.parts-walk.ensures.at (λ p. refl) there.ensures.states;
     }
 
@@ -23,8 +23,17 @@ lay_part-requires g c =
     record {
       within = λ q i. subst (λ (d : Box). IsTrue (is_inside d q)) inv.box (c.in-Some.ensures.part.inside q i);
       apart = c.requires.apart;
-      values = subst (λ (n : ℕ). IsTrue (has_places c.args.bounds c.args.strides.now n)) (sym inv.values.size) c.requires.values;
-      states = subst (λ (n : ℕ). IsTrue (has_places c.args.bounds c.args.strides.now n)) (sym inv.states.size) c.requires.states;
+      places = subst (λ (n : ℕ). IsTrue (has_places c.args.bounds c.args.strides.now n)) (sym inv.values.size) c.requires.values;
+      block = on_leaf (λ leaf. IsPartOfLeaf vdb (field_of vdb c.args.tree.now) c.in-Some.part.bounds leaf.now) (λ leaf. IsInOneLeaf vdb c.in-Some.part.bounds) c.in-Some.part.content (λ leaf part. part.block) c.in-Some.ensures.leaf;
+    }
+
+pub lay_part-requires-in-Some : goal.lay_part-requires-in-Some
+lay_part-requires-in-Some g c =
+    let inv = c.rest.invariant in
+    record {
+      within = λ q i. subst (λ (d : Box). IsTrue (is_inside d q)) inv.box (c.in-Some.ensures.part.inside q i);
+      apart = c.requires.apart;
+      places = subst (λ (n : ℕ). IsTrue (has_places c.args.bounds c.args.strides.now n)) (sym inv.states.size) c.requires.states;
       block = on_leaf (λ leaf. IsPartOfLeaf vdb (field_of vdb c.args.tree.now) c.in-Some.part.bounds leaf.now) (λ leaf. IsInOneLeaf vdb c.in-Some.part.bounds) c.in-Some.part.content (λ leaf part. part.block) c.in-Some.ensures.leaf;
     }
 
@@ -43,18 +52,18 @@ rest-preserved g c =
       box = part.passes.box ∙ inv.box;
       skip = part.passes.skip ∙ inv.skip;
       values =
-          read_next t b s (λ (a : Cell g.row.V.Denot). g.V.Number.number_of a.value) there.result there.ensures.there c.rest.walk c.next_part.new.walk inv.box inv.skip c.requires.apart c.in-Some.part.bounds _ _ _ _ part
-          (λ q i. ap (λ (a : Cell g.row.V.Denot). g.V.Number.number_of a.value) (is q i)) inv.values (c.lay_part.ensures.values (off f.background));
+          read_next t b s g.S.Shown.of there.result there.ensures.there c.rest.walk c.next_part.new.walk inv.box inv.skip c.requires.apart c.in-Some.part.bounds _ _ _ _ part
+          (λ q i. ap g.S.Shown.of (is q i)) inv.values (c.lay_part.ensures (off f.background));
       states =
           read_next t b s (λ (a : Cell g.row.V.Denot). state_byte a.on) there.result there.ensures.there c.rest.walk c.next_part.new.walk inv.box inv.skip c.requires.apart c.in-Some.part.bounds _ _ _ _ part
-          (λ q i. ap (λ (a : Cell g.row.V.Denot). state_byte a.on) (is q i)) inv.states (c.lay_part.ensures.states (off f.background));
+          (λ q i. ap (λ (a : Cell g.row.V.Denot). state_byte a.on) (is q i)) inv.states (c.lay_part-in-Some.ensures (off f.background));
     }
 
 pub returns-clause-values : goal.returns-clause-values
 returns-clause-values g c =
     let inv = c.rest.invariant in
     let there = c.lay_start-there in
-    read_end c.args.tree.now c.args.bounds c.args.strides.now (λ (a : Cell g.row.V.Denot). g.V.Number.number_of a.value) there.result there.ensures.there c.rest.walk c.next_part.new.walk inv.box inv.skip _ _ c.in_default.ensures.end
+    read_end c.args.tree.now c.args.bounds c.args.strides.now g.S.Shown.of there.result there.ensures.there c.rest.walk c.next_part.new.walk inv.box inv.skip _ _ c.in_default.ensures.end
     c.in_default.ensures.none_left inv.values
 
 pub returns-clause-states : goal.returns-clause-states

@@ -9,7 +9,7 @@ invariant-rest g l =
       walk : IsWalk vdb l.tree l.walk;
       box : l.walk.box ≡ l.bounds;
       skip : l.walk.skip ≡ Absent;
-      values : IsLaid l.bounds l.strides (done l.bounds l.there l.walk.at) (so_far l.tree (λ c. g.V.Number.number_of c.value) l.walk.at) l.fn.values l.values;
+      values : IsLaid l.bounds l.strides (done l.bounds l.there l.walk.at) (so_far l.tree g.S.Shown.of l.walk.at) l.fn.values l.values;
       states : IsLaid l.bounds l.strides (done l.bounds l.there l.walk.at) (so_far l.tree (λ c. state_byte c.on) l.walk.at) l.fn.states l.states;
     }
 

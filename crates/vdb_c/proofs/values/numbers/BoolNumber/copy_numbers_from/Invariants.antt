@@ -1,8 +1,0 @@
-use Rattle.vdb_c.proofs.Common.{◌≡◌, ◌+◌, ◌<◌, ℕ, ℤ, Bool, pos, if◌then◌else◌, length, slice_index_or, cell_in, Cell}
-use Rattle.vdb_c.proofs.values.numbers.BoolNumber.copy_numbers_from.Given as goal
-
-abbrev pub invariant-loop-i : goal.invariant-loop-i
-invariant-loop-i l = record {
-  size : length l.into ≡ length l.fn.into;
-  copied : (d : Cell Bool) (j : ℕ) (e : ℤ) → j < l.i → slice_index_or l.into j e ≡ (if (cell_in d l.leaf (l.from + j)).value then pos 1 else pos 0);
-}
