@@ -9,7 +9,7 @@ import ctypes
 import ctypes.util
 import os
 import threading
-from ctypes import POINTER, Structure, byref, c_char_p, c_int32, c_int64, c_size_t, c_uint8, c_uint32, c_uint64, c_void_p
+from ctypes import POINTER, Structure, byref, c_char_p, c_int16, c_int32, c_int64, c_size_t, c_uint8, c_uint16, c_uint32, c_uint64, c_void_p
 from pathlib import Path
 from typing import Any, Iterator, Type, Union
 
@@ -54,11 +54,14 @@ class CensusCounts(Structure):
 
 GRID, VIEW, SCENE = POINTER(GridHandle), POINTER(ViewHandle), POINTER(SceneHandle)
 BOX, COORD = POINTER(Box), POINTER(Coord)
-I32, I64, U32, U64, SIZE = (POINTER(it) for it in (c_int32, c_int64, c_uint32, c_uint64, c_size_t))
+I16, U16, I32, I64, U32, U64, SIZE = (POINTER(it) for it in (c_int16, c_uint16, c_int32, c_int64, c_uint32, c_uint64, c_size_t))
 BYTES, BUFFER = c_char_p, POINTER(c_uint8)
 PLACE = (c_int32, c_int32, c_int32)
 NAMED = (SCENE, BYTES, c_size_t)
-DENSE = (BOX, POINTER(Strides), I64, c_size_t, BUFFER, c_size_t)
+STATES = (BUFFER, c_size_t)
+DENSE = (BOX, POINTER(Strides), I64, c_size_t, *STATES)
+TRUTHS = (BOX, POINTER(Strides), BUFFER, c_size_t, *STATES)
+NUMBERS = (BOX, POINTER(Strides), I32, c_size_t, *STATES)
 ELEMENTS = (c_int64, c_uint32, BOX, POINTER(Strides))
 LEAVES = (COORD, c_size_t, I64, c_size_t, U64, c_size_t, SIZE)
 PARTS = (POINTER(Part), c_size_t, SIZE)
@@ -104,8 +107,13 @@ ARGUMENTS = {
     "vdb_grid_get_many": (GRID, c_int32, COORD, c_size_t, I64, c_size_t, BUFFER, c_size_t),
     "vdb_grid_write_many": (GRID, c_int32, COORD, c_size_t, I64, c_size_t, BUFFER, c_size_t, SIZE),
     "vdb_grid_read_box": (GRID, *DENSE),
+    "vdb_grid_read_box_bool": (GRID, *TRUTHS),
+    "vdb_grid_read_box_i32": (GRID, *NUMBERS),
     "vdb_grid_write_box": (GRID, c_int32, *DENSE, SIZE),
     "vdb_grid_from_box_bool": (GRID, *ELEMENTS, BUFFER, c_size_t),
+    "vdb_grid_from_box_u8": (GRID, *ELEMENTS, BUFFER, c_size_t),
+    "vdb_grid_from_box_i16": (GRID, *ELEMENTS, I16, c_size_t),
+    "vdb_grid_from_box_u16": (GRID, *ELEMENTS, U16, c_size_t),
     "vdb_grid_from_box_i32": (GRID, *ELEMENTS, I32, c_size_t),
     "vdb_grid_from_box_i64": (GRID, *ELEMENTS, I64, c_size_t),
     "vdb_view_new": (GRID, VIEW),
@@ -115,6 +123,8 @@ ARGUMENTS = {
     "vdb_view_get": (VIEW, *PLACE, I64, I32),
     "vdb_view_get_many": (VIEW, COORD, c_size_t, I64, c_size_t, BUFFER, c_size_t),
     "vdb_view_read_box": (VIEW, *DENSE),
+    "vdb_view_read_box_bool": (VIEW, *TRUTHS),
+    "vdb_view_read_box_i32": (VIEW, *NUMBERS),
     "vdb_view_kind": (VIEW, I32),
     "vdb_view_background": (VIEW, I64),
     "vdb_view_limit": (VIEW, U32),
