@@ -155,6 +155,28 @@ template <typename T> T *data_of(Span<T> span)
     return span.empty() ? &none : span.data();
 }
 
+// A type that no argument tells, so that an array or a vector converts to a span of it.
+template <typename T> struct As {
+    using type = T;
+};
+template <typename T> using SpanOf = Span<typename As<T>::type>;
+
+// Reads a box by the call for the type of the elements.
+template <typename T, typename Handle, typename Numbers, typename Truths, typename Narrow>
+void read_box(Handle *handle, Numbers numbers, Truths truths, Narrow narrow, const Box &box, const Strides &strides, Span<T> values,
+              Span<uint8_t> states)
+{
+    static_assert(std::is_same_v<T, bool> || std::is_same_v<T, int32_t> || std::is_same_v<T, int64_t>, "bool, int32_t or int64_t");
+    static_assert(sizeof(bool) == 1, "a bool is a byte");
+    const auto read = [&](auto call, auto *data) { check(call(handle, &box, &strides, data, values.size(), data_of(states), states.size())); };
+    if constexpr (std::is_same_v<T, bool>)
+        read(truths, reinterpret_cast<uint8_t *>(data_of(values)));
+    else if constexpr (std::is_same_v<T, int32_t>)
+        read(narrow, data_of(values));
+    else
+        read(numbers, data_of(values));
+}
+
 // Returns a count as one number. Throws std::overflow_error above 2^64 - 1.
 inline uint64_t whole(const vdb_count &count)
 {
@@ -278,11 +300,16 @@ public:
         set_by(VDB_NO_ACCESSOR, at, values, states, written);
     }
 
-    // Reads a box into arrays: z fastest and without gaps, unless strides are given. An omitted array isn't read.
-    void read_box(const Box &box, Span<int64_t> values, Span<uint8_t> states = {}) const { read_box(box, strides_of(box), values, states); }
-    void read_box(const Box &box, const Strides &strides, Span<int64_t> values, Span<uint8_t> states = {}) const
+    // Reads a box into arrays: z fastest and without gaps, unless strides are given. An omitted array isn't read. The values are int64_t, or
+    // have the type of the grid, as in read_box<int32_t>; another type throws VDB_KINDS.
+    template <typename T = int64_t> void read_box(const Box &box, detail::SpanOf<T> values, Span<uint8_t> states = {}) const
     {
-        check(vdb_grid_read_box(&grid_, &box, &strides, detail::data_of(values), values.size(), detail::data_of(states), states.size()));
+        read_box<T>(box, strides_of(box), values, states);
+    }
+    template <typename T = int64_t>
+    void read_box(const Box &box, const Strides &strides, detail::SpanOf<T> values, Span<uint8_t> states = {}) const
+    {
+        detail::read_box<T>(&grid_, vdb_grid_read_box, vdb_grid_read_box_bool, vdb_grid_read_box_i32, box, strides, values, states);
     }
 
     // Sets each voxel of a box from arrays: z fastest and without gaps, unless strides are given. If an array is omitted, the voxels
@@ -737,10 +764,14 @@ public:
         check(vdb_view_get_many(&view_, detail::data_of(at), at.size(), detail::data_of(values), values.size(), detail::data_of(states),
                                 states.size()));
     }
-    void read_box(const Box &box, Span<int64_t> values, Span<uint8_t> states = {}) const { read_box(box, strides_of(box), values, states); }
-    void read_box(const Box &box, const Strides &strides, Span<int64_t> values, Span<uint8_t> states = {}) const
+    template <typename T = int64_t> void read_box(const Box &box, detail::SpanOf<T> values, Span<uint8_t> states = {}) const
     {
-        check(vdb_view_read_box(&view_, &box, &strides, detail::data_of(values), values.size(), detail::data_of(states), states.size()));
+        read_box<T>(box, strides_of(box), values, states);
+    }
+    template <typename T = int64_t>
+    void read_box(const Box &box, const Strides &strides, detail::SpanOf<T> values, Span<uint8_t> states = {}) const
+    {
+        detail::read_box<T>(&view_, vdb_view_read_box, vdb_view_read_box_bool, vdb_view_read_box_i32, box, strides, values, states);
     }
 
     // The reports and walks of Grid.

@@ -11,15 +11,24 @@ import numpy as np
 
 from .errors import RangeError
 from .forms import KINDS, Array, Kind, Progress, Value, check_limit, kind_of_array, narrow
-from .library import BUFFER, COORD, I32, I64, LIBRARY, Box, Coord, GridHandle, Held, Strides
+from .library import BUFFER, COORD, I16, I32, I64, LIBRARY, U16, Box, Coord, GridHandle, Held, Strides
 
 #: How many voxels of a dense array are written at a time, about, and how many are read: their numbers fit the processor's cache.
 SLAB, BRICK = 2**21, 2**18
 #: The accessor of calls on many voxels.
 ACCESSOR = 0
 
-#: The elements of an array of a kind, as the library takes them.
-ELEMENTS: "dict[str, Any]" = {"bool": BUFFER, "i32": I32, "i64": I64}
+#: By its dtype, the pointer to the elements of an array, and how the calls that make a grid of them end.
+ELEMENTS: "dict[str, tuple[Any, str]]" = {
+    "b1": (BUFFER, "bool"),
+    "u1": (BUFFER, "u8"),
+    "i2": (I16, "i16"),
+    "u2": (U16, "u16"),
+    "i4": (I32, "i32"),
+    "i8": (I64, "i64"),
+}
+#: The calls that read a box, by the types of the grid and of the elements.
+READS = {("bool", "b1"): "read_box_bool", ("i32", "i4"): "read_box_i32", **{(word, "i8"): "read_box" for word in KINDS}}
 
 #: Eight listed voxels of a row, a byte each.
 WHOLE_ROW = np.uint64(0x0101010101010101)
@@ -107,11 +116,30 @@ class Room:
         return self.memory[:size].reshape(shape)
 
 
-def place_of(low: Sequence[int], part: Brick) -> tuple:
-    """Returns the arguments for the box and the strides of a part of an array that begins at a coordinate. The part has no gaps."""
-    _, side_y, side_z = shape_of(part)
-    corners = ([at + end for at, end in zip(low, ends)] for ends in ([it.start for it in part], [it.stop - 1 for it in part]))
-    return byref(box_of(*corners)), byref(Strides(side_y * side_z, side_z, 1))
+def corner_of(low: Sequence[int], part: Brick) -> "list[int]":
+    """Returns the coordinate at which a part of an array begins that begins at a coordinate."""
+    return [at + it.start for at, it in zip(low, part)]
+
+
+def elements_of(array: np.ndarray) -> "tuple[Strides, Any, int] | None":
+    """Returns the strides of an array in elements, a pointer to the first one, and how many there are from it to the last. Returns None if
+    the library can't take the array as it is: its dtype is another, an axis goes backwards, or voxels share an element."""
+    form = array.dtype.str[1:]
+    if form not in ELEMENTS or not (array.size and array.dtype.isnative and array.flags.aligned):
+        return None
+    last = 0
+    for step, length in sorted(zip(array.strides, array.shape)):
+        if length > 1:
+            if step % array.itemsize or step <= last:
+                return None
+            last += step * (length - 1)
+    steps = (max(0, step) // array.itemsize for step in array.strides)
+    return Strides(*steps), array.ctypes.data_as(ELEMENTS[form][0]), last // array.itemsize + 1
+
+
+def whole_box(low: Sequence[int], shape: Sequence[int]) -> Any:
+    """Returns the argument for the box of an array that begins at a coordinate."""
+    return byref(box_of(low, [at + length - 1 for at, length in zip(low, shape)]))
 
 
 def read_box(
@@ -121,21 +149,35 @@ def read_box(
 
     Raises RangeError, after the bricks before it, if the dtype of `values` holds a value of a brick neither safely nor in fact.
     """
-    some = values if values is not None else active
-    assert some is not None
-    direct = values is not None and values.dtype == np.int64 and values.flags.carray
-    room, marks = Room(np.int64), Room(np.bool_)
-    for part in bricks(low, some.shape, direct):
-        shape = shape_of(part)
-        numbers = values[part] if values is not None and direct else room.array((0,) if values is None else shape)
-        states = marks.array(shape if active is not None or fill is not None else (0,))
-        held.call("read_box", *place_of(low, part), *pointers(numbers, states))
-        if fill is not None and values is not None:
-            np.copyto(numbers, fill, where=~states)
-        if values is not None and not direct:
-            narrow(numbers, values[part], kind.dtype)
-        if active is not None:
-            active[part] = states
+    if active is not None:
+        read_array(held, None, low, active)
+    if values is None:
+        return
+    if fill is None:
+        read_array(held, kind, low, values)
+        return
+    room, marks = Room(kind.dtype), Room(np.bool_)
+    for part in bricks(low, values.shape):
+        made, states = room.array(shape_of(part)), marks.array(shape_of(part))
+        read_box(held, kind, corner_of(low, part), made, states, None)
+        np.copyto(made, fill, where=~states)
+        narrow(made, values[part], kind.dtype)
+
+
+def read_array(held: Held, kind: "Kind | None", low: Sequence[int], array: np.ndarray) -> None:
+    """Writes the values of a box of voxels to a dense array or, without the type of the grid, their states: in place if the library can."""
+    taken, nothing = elements_of(array), (None, 0)
+    call = READS.get((kind.word, array.dtype.str[1:])) if kind else "read_box"
+    if taken and kind and call:
+        held.call(call, whole_box(low, array.shape), byref(taken[0]), *taken[1:], *nothing)
+    elif taken and array.dtype == np.bool_ and not kind:
+        held.call("read_box", whole_box(low, array.shape), byref(taken[0]), *nothing, *taken[1:])
+    else:
+        room = Room(kind.dtype if kind else np.bool_)
+        for part in bricks(low, array.shape):
+            made = room.array(shape_of(part))
+            read_array(held, kind, corner_of(low, part), made)
+            narrow(made, array[part], made.dtype)
 
 
 def write_box(held: Held, low: Sequence[int], values: "np.ndarray | None", active: "np.ndarray | None") -> None:
@@ -145,7 +187,9 @@ def write_box(held: Held, low: Sequence[int], values: "np.ndarray | None", activ
     for part in bricks(low, some.shape, is_whole=True):
         numbers = np.empty(0, np.int64) if values is None else plain(values[part], np.int64)
         states = np.empty(0, np.bool_) if active is None else np.ascontiguousarray(active[part])
-        held.call("write_box", ACCESSOR, *place_of(low, part), *pointers(numbers, states), byref(c_size_t()))
+        _, y, z = shape = shape_of(part)
+        place = whole_box(corner_of(low, part), shape), byref(Strides(y * z, z, 1))
+        held.call("write_box", ACCESSOR, *place, *pointers(numbers, states), byref(c_size_t()))
 
 
 def new_grid(kind: Kind, background: "Value | None", limit: int) -> Held:
@@ -156,15 +200,15 @@ def new_grid(kind: Kind, background: "Value | None", limit: int) -> Held:
 
 
 def from_elements(held: Held, low: Sequence[int], values: np.ndarray, background: Value, limit: int) -> bool:
-    """Makes the grid of an array in one pass, if the array is short or needs no copy for it. Returns whether it did."""
-    kind = kind_of_array(values)
-    if not values.size or values.size > SLAB and not (values.dtype == kind.dtype and values.flags.c_contiguous and values.flags.aligned):
+    """Makes the grid of an array in one pass, if the library takes it as it is, or it is short. Returns whether it did."""
+    taken = elements_of(values)
+    if not taken and 0 < values.size <= SLAB:
+        values = plain(values, kind_of_array(values).dtype)
+        taken = elements_of(values)
+    if not taken:
         return False
-    elements = plain(values, kind.dtype)
-    first = elements.ctypes.data_as(ELEMENTS[kind.word])
-    x, y, z = values.shape
-    place = place_of(low, (slice(0, x), slice(0, y), slice(0, z)))
-    held.call(f"from_box_{kind.word}", background, int(limit), *place, first, elements.size)
+    call = f"from_box_{ELEMENTS[values.dtype.str[1:]][1]}"
+    held.call(call, background, int(limit), whole_box(low, values.shape), byref(taken[0]), *taken[1:])
     return True
 
 
@@ -189,7 +233,7 @@ def from_dense(
         some = np.ascontiguousarray(values[part])
         listed = np.not_equal(some, background, out=np.empty(some.shape, np.bool_))
         states = listed if active is None else np.ascontiguousarray(active[part])
-        corner = np.array([at + it.start for at, it in zip(low, part)], np.int64)
+        corner = np.array(corner_of(low, part), np.int64)
         (begins, ends), whole = leaf_runs(corner, listed if active is None else listed | states, is_mask)
         if is_mask:
             fill_boxes(held, *boxes_of(corner, *whole), int(not background))

@@ -9,7 +9,7 @@ import ctypes
 import ctypes.util
 import os
 import threading
-from ctypes import POINTER, Structure, byref, c_char_p, c_int32, c_int64, c_size_t, c_uint8, c_uint32, c_uint64, c_void_p
+from ctypes import POINTER, Structure, byref, c_char_p, c_int16, c_int32, c_int64, c_size_t, c_uint8, c_uint16, c_uint32, c_uint64, c_void_p
 from pathlib import Path
 from typing import Any, Iterator, Type, Union
 
@@ -54,7 +54,7 @@ class CensusCounts(Structure):
 
 GRID, VIEW, SCENE = POINTER(GridHandle), POINTER(ViewHandle), POINTER(SceneHandle)
 BOX, COORD = POINTER(Box), POINTER(Coord)
-I32, I64, U32, U64, SIZE = (POINTER(it) for it in (c_int32, c_int64, c_uint32, c_uint64, c_size_t))
+I16, U16, I32, I64, U32, U64, SIZE = (POINTER(it) for it in (c_int16, c_uint16, c_int32, c_int64, c_uint32, c_uint64, c_size_t))
 BYTES, BUFFER = c_char_p, POINTER(c_uint8)
 PLACE = (c_int32, c_int32, c_int32)
 NAMED = (SCENE, BYTES, c_size_t)
@@ -110,6 +110,9 @@ ARGUMENTS = {
     "vdb_grid_read_box_i32": (GRID, *DENSE_I32),
     "vdb_grid_write_box": (GRID, c_int32, *DENSE, SIZE),
     "vdb_grid_from_box_bool": (GRID, *ELEMENTS, BUFFER, c_size_t),
+    "vdb_grid_from_box_u8": (GRID, *ELEMENTS, BUFFER, c_size_t),
+    "vdb_grid_from_box_i16": (GRID, *ELEMENTS, I16, c_size_t),
+    "vdb_grid_from_box_u16": (GRID, *ELEMENTS, U16, c_size_t),
     "vdb_grid_from_box_i32": (GRID, *ELEMENTS, I32, c_size_t),
     "vdb_grid_from_box_i64": (GRID, *ELEMENTS, I64, c_size_t),
     "vdb_view_new": (GRID, VIEW),

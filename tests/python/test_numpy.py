@@ -3,6 +3,7 @@
 import copy
 import gc
 import inspect
+import itertools
 import pickle
 import re
 import threading
@@ -112,6 +113,30 @@ class Dense(unittest.TestCase):
             for wrong, error in ((made[1:], ValueError), (made.tolist(), TypeError), ((None, made), TypeError)):
                 with self.assertRaises(error):
                     grid.to_array(box, out=wrong)
+
+    def test_orders_and_strides(self):
+        """Arrays of each dtype in every order of the axes, backwards, with gaps, with one voxel along axes, with voxels that share an
+        element, unaligned, and in the other byte order: to a grid and back into an array of the same form."""
+
+        def forms(values):
+            for order in itertools.permutations(range(3)):
+                yield values.transpose(order).copy().transpose(np.argsort(order))
+            yield from (values[::-1], values[:, :, ::-1], np.repeat(values, 2, axis=1)[:, ::2], values[3:4, :, 2:3], values[:, 5:6])
+            yield np.broadcast_to(values[:, :1], values.shape)
+            yield np.frombuffer(b"-" + values.tobytes(), values.dtype, offset=1).reshape(values.shape)
+
+        for dtype in "?", "b", "B", "h", "H", "i", "I", "q", ">i2", ">i4", ">i8":
+            for values in forms(sample(5)[0].astype(dtype)):
+                box, states = (LOW, tuple(at + side - 1 for at, side in zip(LOW, values.shape))), values != 0
+                for package in PACKAGES:
+                    grid = package.Grid.from_array(values, origin=LOW)
+                    np.testing.assert_array_equal(grid.to_array(box), (values, states))
+                    self.assertEqual(grid.count, np.count_nonzero(values))
+                    out = np.copy(values, order="K"), np.copy(states, order="F")
+                    out[0].fill(1), out[1].fill(False)
+                    grid.to_array(box, out=out)
+                    np.testing.assert_array_equal(out[0], values)
+                    np.testing.assert_array_equal(out[1], states)
 
     def test_dtype(self):
         values = np.arange(-3, 124, dtype=np.int32).reshape(1, 1, -1)
