@@ -1,5 +1,5 @@
 -- Fields whose voxels a call gives cells leaf by leaf.
-use Rattle.vdb_c.proofs.Common.{◌≡◌, ◌<◌, ◌≤◌, ◌⊎◌, inl, inr, refl, sym, ap, ◌∙◌, subst, ℕ, arith, Bool, true, false, cond, IsTrue, Some, None, Result, Ok, Err, TreeRefusal, block_number, offset, vdb, Box, coord_eq, everywhere, is_inside, IsBlockBefore, Coord, before_not_same, none_before, cell_in, Cell, Field, field, off, Layout, cell_at, field_of, IsLeafAround, cell_inside, same_cells, IsBeside}
+use Rattle.vdb_c.proofs.Common.{◌≡◌, ◌<◌, ◌≤◌, ◌⊎◌, inl, inr, refl, sym, ap, ◌∙◌, subst, ℕ, arith, Bool, true, false, cond, IsTrue, Some, None, Result, Ok, Err, TreeRefusal, block_number, offset, vdb, Box, coord_eq, everywhere, is_inside, IsBlockBefore, Coord, before_not_same, none_before, cell_in, Cell, Field, field, off, Layout, cell_at, field_of, cell_inside, same_cells, IsBeside}
 use Rattle.std.specs.Prelude.{OnOk}
 use Rattle.vdb_coord.specs.Walk.{IsNextBlock}
 use Rattle.vdb_coord.specs.declared.Level.TheVariants.{Leaf as leaf_level, Upper}
@@ -7,7 +7,7 @@ use Rattle.vdb_coord.specs.Blocks.{block}
 use Rattle.vdb_coord.proofs.BlockOrder.{moved_before}
 use Rattle.vdb_coord.proofs.Nesting.{voxel_from_leaf}
 use Rattle.vdb_coord.proofs.Positions.{offset_below}
-use Rattle.vdb_node.specs.Leaf.{FillsRun, Leaf}
+use Rattle.vdb_node.specs.Leaf.{Leaf}
 use Rattle.vdb_tree.specs.ConstantBlocks.{roots}
 use Rattle.vdb_tree.specs.Field.{new}
 use Rattle.vdb_tree.specs.Leaves.{with_leaf}
@@ -44,8 +44,9 @@ module _ {V : Type 0} (b : Box) (cell : Coord → Cell V) where
   given_first p at_min f = none_given (Before b p) f (λ q k. none_before vdb leaf_level b q k.0 (subst (IsBlockBefore vdb leaf_level q) at_min k.1))
 
   -- a leaf with the cells of p's part of the box in the place of the inactive background
-  module _ (part : Box) (p : Coord) (f : Field V) (old laid : Leaf V) (is : (q : Coord) → IsTrue (is_inside part q) → IsBeside b p q) (all : (q : Coord) → IsBeside b p q → IsTrue (is_inside part q))
-      (around : IsLeafAround vdb f p old) (h : HasCells (λ q. IsTrue (is_inside part q)) cell old laid) where
+  module _ (part : Box) (p : Coord) (f : Field V) (laid : Leaf V) (blank : Cell V) (is : (q : Coord) → IsTrue (is_inside part q) → IsBeside b p q) (all : (q : Coord) → IsBeside b p q → IsTrue (is_inside part q))
+      (was : (q : Coord) → IsTrue (is_inside everywhere q) → block_number vdb leaf_level q ≡ block_number vdb leaf_level p → f.cell q ≡ blank)
+      (h : HasCells (λ q. IsTrue (is_inside part q)) (offset vdb leaf_level) cell (λ i. blank) (cell_in (off f.background) laid)) where
     at : (q : Coord) → IsTrue (is_inside everywhere q) → (with_leaf vdb p laid f).cell q
         ≡ cond (coord_eq (block_number vdb leaf_level p) (block_number vdb leaf_level q)) (cell_in (off f.background) laid (offset vdb leaf_level q)) (f.cell q)
     at q range = cell_inside f.background (λ r. cond (coord_eq (block_number vdb leaf_level p) (block_number vdb leaf_level r)) (cell_in (off f.background) laid (offset vdb leaf_level r)) (f.cell r)) q range
@@ -54,11 +55,11 @@ module _ {V : Type 0} (b : Box) (cell : Coord → Cell V) where
     in_block q range e = at q range ∙ rw (like_coords (block_number vdb leaf_level p) (block_number vdb leaf_level q) (sym e)) refl
 
     in_part : (q : Coord) → IsTrue (is_inside everywhere q) → IsBeside b p q → (with_leaf vdb p laid f).cell q ≡ cell q
-    in_part q range beside = in_block q range beside.1 ∙ h.voxels (off f.background) q (all q beside)
+    in_part q range beside = in_block q range beside.1 ∙ h.within q (all q beside)
 
     elsewhere : (q : Coord) → IsTrue (is_inside everywhere q) → (IsBeside b p q → ⊥) → (with_leaf vdb p laid f).cell q ≡ f.cell q
     elsewhere q range out = elim (coord_cases (block_number vdb leaf_level q) (block_number vdb leaf_level p)) [
-      | inl e ↦ in_block q range e ∙ h.others (off f.background) (offset vdb leaf_level q) (λ r k same. out (subst (IsBeside b p) (voxel_from_leaf vdb r q ((is r k).1 ∙ sym e) same) (is r k))) ∙ sym (around q range e)
+      | inl e ↦ in_block q range e ∙ h.others (offset vdb leaf_level q) (offset_below vdb leaf_level q) (λ r k same. out (subst (IsBeside b p) (voxel_from_leaf vdb r q ((is r k).1 ∙ sym e) same) (is r k))) ∙ sym (was q range e)
       | inr d ↦ at q range ∙ rw (unlike_coords (block_number vdb leaf_level p) (block_number vdb leaf_level q) (λ e. d (sym e))) refl
     ]
 
@@ -151,11 +152,6 @@ module _ {V : Type 0} (b : Box) (cell : Coord → Cell V) where
             | inl k ↦ k.1 ∙ sym (in_whole q range k.0) ∙ flat ∙ sym (ap (λ (x : V). off x) same)
             | inr l ↦ l ∙ ap (λ (g : Field V). g.cell q) e ∙ blank q range ∙ sym (ap (λ (x : V). off x) same)
           ]
-
--- a leaf of the background has the cells of an extent of the background
-pub blank_leaf : {V : Type 0} (background : V) (p : Coord) (f : Field V) (old leaf : Leaf V) → FillsRun old leaf 0 512 (record { value = background; on = false })
-    → ((q : Coord) → IsTrue (is_inside everywhere q) → block_number vdb leaf_level q ≡ block_number vdb leaf_level p → f.cell q ≡ off background) → IsLeafAround vdb f p leaf
-blank_leaf background p f old leaf filled blank = λ q range same. blank q range same ∙ sym (filled.changed (off f.background) (offset vdb leaf_level q) (omega arith) (offset_below vdb leaf_level q))
 
 -- what holds of the changed field holds after the call, if it succeeded
 pub on_given : {V : Type 0} (eq : V → V → Bool) (limit : ℕ) (old changed new : Field V) (r : Result (Unit {0}) TreeRefusal) (P : Field V → Type 0) → IsOutcome eq vdb limit old changed new r → P changed → OnOk r (P new)

@@ -1,71 +1,246 @@
--- Voxels of a leaf that a call gives cells one after another.
-use Rattle.vdb_c.proofs.Common.{◌≡◌, ◌≢◌, inl, inr, refl, sym, ap, ◌∙◌, subst, ℕ, ◌+◌, ◌<◌, ◌+ℤ◌, pos, Bool, true, false, IsTrue, List, length, get_or, Option, Some, None, slice_get, block_number, offset, vdb, Box, coord, coord_eq, is_inside, Coord, coord_equiv, coord_exact, cell_in, Cell, IsNextVoxel, IsUpTo, place, Strides}
+-- Leaves that a call gives cells row by row.
+use Rattle.vdb_c.proofs.Common.{◌≡◌, ◌≢◌, ◌⊎◌, inl, inr, refl, sym, ap, ◌∙◌, subst, ℕ, ℤ, ◌+◌, ◌*◌, ◌<◌, ◌≤◌, ◌+ℤ◌, ◌≤ℤ◌, pos, arith, ints, Bool, true, false, not, IsTrue, List, length, get_or, Option, Some, slice_get, int_gap, int_le, block_number, offset, vdb, Box, coord, is_inside, Coord, inside_from, inside_parts, cell_in, Cell, off, IsInOneLeaf, place, Strides}
+use Rattle.std.proofs.Common.{◌/◌, ◌%◌, ◌*ℤ◌}
+use Rattle.std.proofs.Math.Nat.{add-mul, div-one}
 use Rattle.std.specs.Option.{option_map_or}
 use Rattle.std.proofs.lemmas.Option.{slice_get-get_or}
+use Rattle.vdb_coord.specs.Components.{number_at}
 use Rattle.vdb_coord.specs.declared.Level.TheVariants.{Leaf as leaf_level}
-use Rattle.vdb_coord.proofs.Nesting.{voxel_from_leaf}
-use Rattle.vdb_node.specs.Leaf.{Leaf, SetsVoxel}
-use Rattle.vdb_c.specs.FromBox.{HasCells, cell_given, cell_of_element}
-use Rattle.vdb_c.proofs.CopiedRows.{row_offset}
-use Rattle.vdb_c.proofs.Laid.{false_true}
-use Rattle.vdb_c.proofs.NextVoxels.{all_passed, none, not_yet, or_first, or_second, or_ways, up_to_min, up_to_next, with_inside, with_voxel}
+use Rattle.vdb_coord.proofs.Division.{parts, rest, rest_below}
+use Rattle.vdb_coord.proofs.Positions.{offset_below}
+use Rattle.vdb_node.specs.Leaf.{Leaf}
+use Rattle.vdb_c.specs.FromBox.{HasCells, cell_at, cell_of_element, cells_of}
+use Rattle.vdb_c.proofs.Places.{place_at_most, reached}
 
-module _ {V : Type 0} (part : Box) (cell : Coord → Cell V) where
-  -- the voxels of the part before p have their cells
-  pub record AreGivenUpTo (max p : Coord) (old new : Leaf V) : Type 0 where
-    pub max_is : max ≡ part.max
-    pub inside : IsTrue (is_inside part p)
-    pub given : (passed : Coord → Bool) × IsUpTo part p passed × HasCells (λ q. IsTrue (passed q)) cell old new
+-- ---- elements
 
-  pub given_first : (max p : Coord) (leaf : Leaf V) → max ≡ part.max → IsTrue (is_inside part p) → p ≡ part.min → AreGivenUpTo max p leaf leaf
-  given_first max p leaf max_is inside at_min = record {
-    max_is = max_is;
-    inside = inside;
-    given = (none, up_to_min part p at_min, record { voxels = λ d q k. absurd (false_true false refl k); others = λ d i out. refl });
+-- the cell of an element with the background
+pub blank_cell : {V X : Type 0} (eq : V → V → Bool) (exact : (x y : V) → eq x y ≡ true → x ≡ y) (value : X → V) (background : V) (x : X) → eq (value x) background ≡ true → cell_of_element eq value background x ≡ off background
+blank_cell eq exact value background x is =
+    let same = exact (value x) background is in
+    λ i. record { value = same i; on = ap not is i }
+
+-- the cell of an element, as the code reads it
+pub read_cell : {V X : Type 0} (eq : V → V → Bool) (value : X → V) (background : V) (values : List X) (index : ℕ) (x : X)
+    → index < length values → x ≡ get_or values index x → cell_of_element eq value background x ≡ cell_at eq value background values index
+read_cell {X = X} eq value background values index x lt is =
+    let got : slice_get values index ≡ Some x = slice_get-get_or values index x lt ∙ ap Some (sym is) in
+    ap (λ (o : Option X). option_map_or (cell_of_element eq value background) o (off background)) (sym got)
+
+-- ---- rows after rows, and planes after planes
+
+below_or_last : (m n : ℕ) → m < n + 1 → (m < n) ⊎ (m ≡ n)
+below_or_last m n h = grind (arith, h)
+
+module _ {V J : Type 0} (Within : J → Type 0) (entry : ℕ → J → ℕ) (cell : ℕ → J → Cell V) where
+  -- the first so many have their cells
+  abbrev pub HaveCells : ℕ → (ℕ → Cell V) → (ℕ → Cell V) → Type 0
+  HaveCells count old new = HasCells (λ (n : ℕ × J). (n.0 < count) × Within n.1) (λ n. entry n.0 n.1) (λ n. cell n.0 n.1) old new
+
+  pub have_none : (cells : ℕ → Cell V) → HaveCells 0 cells cells
+  have_none cells = record { within = λ n h. absurd (no_less n.0 h.0); others = λ i l out. refl }
+    where
+      no_less : (n : ℕ) → n < 0 → ⊥
+      no_less n h = omega (arith, h)
+
+  pub have_next : (count : ℕ) (old mid new : ℕ → Cell V) → HaveCells count old mid → HasCells Within (entry count) (cell count) mid new
+      → ((n : ℕ) (j : J) → n < count → Within j → entry n j < 512) → ((n : ℕ) (i j : J) → n < count → Within i → Within j → entry count j ≢ entry n i) → HaveCells (count + 1) old new
+  have_next count old mid new h next small apart = record {
+    within = λ n w. by n w.1 (below_or_last n.0 count w.0);
+    others = λ i l out. next.others i l (λ j k. out (count, j) (omega arith, k)) ∙ h.others i l (λ n w. let less = w.0 in out n (omega (arith, less), w.1));
+  }
+    where
+      by : (n : ℕ × J) → Within n.1 → (n.0 < count) ⊎ (n.0 ≡ count) → new (entry n.0 n.1) ≡ cell n.0 n.1
+      by n w (inl less) = next.others (entry n.0 n.1) (small n.0 n.1 less w) (λ j k. apart n.0 n.1 j less w k) ∙ h.within n (less, w)
+      by n w (inr e) = subst (λ (m : ℕ). new (entry m n.1) ≡ cell m n.1) (sym e) (next.within n.1 w)
+
+pub row_apart : (o y z m n count : ℕ) → z < y → m < count → n < count → o % 8 + count ≤ 8 → o + 8 * y + n ≢ o + 8 * z + m
+row_apart o y z m n count h k l row e = omega (arith, h, k, l, row, e)
+
+pub row_below : (o y m count : ℕ) → o % 8 + count ≤ 8 → o + 8 * y < 512 → m < count → o + 8 * y + m < 512
+row_below o y m count row h l = omega (arith, row, h, l)
+
+-- ---- the entries and the elements of a part of a box
+
+rest_along : (z : ℤ) (n : ℕ) → number_at 3 z ≡ number_at 3 (z +ℤ pos n) → rest 8 (z +ℤ pos n) / 1 ≡ rest 8 z / 1 + n
+rest_along z n same =
+    div-one (rest 8 (z +ℤ pos n))
+    ∙ by (number_at 3 z) (number_at 3 (z +ℤ pos n)) (rest 8 z) (rest 8 (z +ℤ pos n)) z same (parts 8 z (omega arith)) (parts 8 (z +ℤ pos n) (omega arith))
+    ∙ ap (λ (r : ℕ). r + n) (sym (div-one (rest 8 z)))
+  where
+    by : (q q' : ℤ) (r r' : ℕ) (z : ℤ) → q ≡ q' → q *ℤ pos 8 +ℤ pos r ≡ z → q' *ℤ pos 8 +ℤ pos r' ≡ z +ℤ pos n → r' ≡ r + n
+    by q q' r r' z e h k = omega (arith, ints, e, h, k)
+
+rest_small : (x : ℤ) → rest 8 x / 1 < 8
+rest_small x = subst (λ (r : ℕ). r < 8) (sym (div-one (rest 8 x))) (rest_below 8 x (omega arith))
+
+test : (low z : ℤ) → low ≤ℤ z → int_le low z ≡ true
+test low z h = grind (arith, ints)
+
+gap_along : (low z : ℤ) (n : ℕ) → low ≤ℤ z → int_gap low (z +ℤ pos n) ≡ int_gap low z + n
+gap_along low z n h = by low z (int_gap low z) (int_gap low (z +ℤ pos n)) (reached low z (test low z h)) (reached low (z +ℤ pos n) (test low (z +ℤ pos n) (omega (arith, ints, h))))
+  where
+    by : (low z : ℤ) (g g' : ℕ) → low +ℤ pos g ≡ z → low +ℤ pos g' ≡ z +ℤ pos n → g' ≡ g + n
+    by low z g g' e k = omega (arith, ints, e, k)
+
+-- the voxel so many past another along each axis
+abbrev pub voxel_at : Coord → ℕ × (ℕ × ℕ) → Coord
+voxel_at p n = coord (p.x +ℤ pos n.0) (p.y +ℤ pos n.1.0) (p.z +ℤ pos n.1.1)
+
+-- a part of a box in one leaf extent: its least corner with its entry and its element, and how far its greatest corner is past it
+pub record IsPartAt (b : Box) (s : Strides) (part : Box) (p : Coord) (o first dx dy dz : ℕ) : Type 0 where
+  pub within : (q : Coord) → IsTrue (is_inside part q) → IsTrue (is_inside b q)
+  pub block : IsInOneLeaf vdb part
+  pub inside : IsTrue (is_inside part p)
+  pub least : p ≡ part.min
+  pub x : p.x +ℤ pos dx ≡ part.max.x
+  pub y : p.y +ℤ pos dy ≡ part.max.y
+  pub z : p.z +ℤ pos dz ≡ part.max.z
+  pub entry : o ≡ offset vdb leaf_level p
+  pub element : first ≡ place b s p
+
+pub part_at : (b : Box) (s : Strides) (part : Box) (p max : Coord) (o first dx dy dz : ℕ) → ((q : Coord) → IsTrue (is_inside part q) → IsTrue (is_inside b q)) → IsInOneLeaf vdb part → IsTrue (is_inside part p) → p ≡ part.min → max ≡ part.max
+    → dx ≡ int_gap p.x max.x → dy ≡ int_gap p.y max.y → dz ≡ int_gap p.z max.z → o ≡ offset vdb leaf_level p → first ≡ place b s p → IsPartAt b s part p o first dx dy dz
+part_at b s part p max o first dx dy dz within block inside least greatest x y z entry element =
+    let own = inside_parts part p inside in
+    record {
+      within = within;
+      block = block;
+      inside = inside;
+      least = least;
+      x = end p.x max.x part.max.x dx x (ap (λ (m : Coord). m.x) greatest) own.0.1;
+      y = end p.y max.y part.max.y dy y (ap (λ (m : Coord). m.y) greatest) own.1.1;
+      z = end p.z max.z part.max.z dz z (ap (λ (m : Coord). m.z) greatest) own.2.1;
+      entry = entry;
+      element = element;
+    }
+  where
+    end : (low high top : ℤ) (n : ℕ) → n ≡ int_gap low high → high ≡ top → low ≤ℤ top → low +ℤ pos n ≡ top
+    end low high top n e same h = ap (λ (m : ℕ). low +ℤ pos m) e ∙ reached low high (test low high (subst (λ (m : ℤ). low ≤ℤ m) (sym same) h)) ∙ same
+
+module _ (b : Box) (s : Strides) (part : Box) (p : Coord) (o first dx dy dz : ℕ) (h : IsPartAt b s part p o first dx dy dz) where
+  abbrev InPlane : ℕ × ℕ → Type 0
+  InPlane j = (j.0 < dy + 1) × (j.1 < dz + 1)
+
+  abbrev InPart : ℕ × (ℕ × ℕ) → Type 0
+  InPart n = (n.0 < dx + 1) × InPlane n.1
+
+  at_inside : (n : ℕ × (ℕ × ℕ)) → InPart n → IsTrue (is_inside part (voxel_at p n))
+  at_inside n w =
+      let own = inside_parts part p h.inside in
+      inside_from part (voxel_at p n) (more part.min.x p.x n.0 own.0.0) (most p.x part.max.x n.0 dx h.x w.0) (more part.min.y p.y n.1.0 own.1.0) (most p.y part.max.y n.1.0 dy h.y w.1.0)
+      (more part.min.z p.z n.1.1 own.2.0) (most p.z part.max.z n.1.1 dz h.z w.1.1)
+    where
+      more : (low z : ℤ) (n : ℕ) → low ≤ℤ z → low ≤ℤ (z +ℤ pos n)
+      more low z n h = omega (arith, ints, h)
+
+      most : (low top : ℤ) (n m : ℕ) → low +ℤ pos m ≡ top → n < m + 1 → (low +ℤ pos n) ≤ℤ top
+      most low top n m e h = omega (arith, ints, e, h)
+
+  at_offset : (n : ℕ × (ℕ × ℕ)) → InPart n → offset vdb leaf_level (voxel_at p n) ≡ o + 64 * n.0 + 8 * n.1.0 + n.1.1
+  at_offset n w =
+      let same = h.block p (voxel_at p n) h.inside (at_inside n w) in
+      by (rest 8 p.x / 1) (rest 8 p.y / 1) (rest 8 p.z / 1) (rest 8 (p.x +ℤ pos n.0) / 1) (rest 8 (p.y +ℤ pos n.1.0) / 1) (rest 8 (p.z +ℤ pos n.1.1) / 1) n.0 n.1.0 n.1.1 o h.entry
+      (rest_along p.x n.0 (ap (λ (c : Coord). c.x) same)) (rest_along p.y n.1.0 (ap (λ (c : Coord). c.y) same)) (rest_along p.z n.1.1 (ap (λ (c : Coord). c.z) same))
+    where
+      by : (a c r a' c' r' i j k o : ℕ) → o ≡ (a * 8 + c) * 8 + r → a' ≡ a + i → c' ≡ c + j → r' ≡ r + k → (a' * 8 + c') * 8 + r' ≡ o + 64 * i + 8 * j + k
+      by a c r a' c' r' i j k o e x y z = omega (arith, e, x, y, z)
+
+  at_place : (n : ℕ × (ℕ × ℕ)) → place b s (voxel_at p n) ≡ first + n.0 * s.x + n.1.0 * s.y + n.1.1 * s.z
+  at_place n =
+      let low = inside_parts b p (h.within p h.inside) in
+      by (int_gap b.min.x (p.x +ℤ pos n.0)) (int_gap b.min.y (p.y +ℤ pos n.1.0)) (int_gap b.min.z (p.z +ℤ pos n.1.1)) (int_gap b.min.x p.x) (int_gap b.min.y p.y) (int_gap b.min.z p.z) n.0 n.1.0 n.1.1 first h.element
+      (gap_along b.min.x p.x n.0 low.0.0) (gap_along b.min.y p.y n.1.0 low.1.0) (gap_along b.min.z p.z n.1.1 low.2.0)
+    where
+      by : (a c r a' c' r' i j k f : ℕ) → f ≡ a' * s.x + (c' * s.y + r' * s.z) → a ≡ a' + i → c ≡ c' + j → r ≡ r' + k → a * s.x + (c * s.y + r * s.z) ≡ f + i * s.x + j * s.y + k * s.z
+      by a c r a' c' r' i j k f e x y z =
+          let ex : a * s.x ≡ a' * s.x + i * s.x = ap (λ (m : ℕ). m * s.x) x ∙ add-mul a' i s.x in
+          let ey : c * s.y ≡ c' * s.y + j * s.y = ap (λ (m : ℕ). m * s.y) y ∙ add-mul c' j s.y in
+          let ez : r * s.z ≡ r' * s.z + k * s.z = ap (λ (m : ℕ). m * s.z) z ∙ add-mul r' k s.z in
+          omega (arith, e, ex, ey, ez)
+
+  voxel_of : (q : Coord) → IsTrue (is_inside part q) → (n : ℕ × (ℕ × ℕ)) × InPart n × (voxel_at p n ≡ q)
+  voxel_of q i =
+      let own = inside_parts part q i in
+      let low = subst (λ (m : Coord). (m.x ≤ℤ q.x) × ((m.y ≤ℤ q.y) × (m.z ≤ℤ q.z))) (sym h.least) (own.0.0, (own.1.0, own.2.0)) in
+      let x = reached p.x q.x (test p.x q.x low.0) in
+      let y = reached p.y q.y (test p.y q.y low.1.0) in
+      let z = reached p.z q.z (test p.z q.z low.1.1) in (
+        (int_gap p.x q.x, (int_gap p.y q.y, int_gap p.z q.z)),
+        (few p.x q.x part.max.x (int_gap p.x q.x) dx x h.x own.0.1, (few p.y q.y part.max.y (int_gap p.y q.y) dy y h.y own.1.1, few p.z q.z part.max.z (int_gap p.z q.z) dz z h.z own.2.1)),
+        λ k. coord (x k) (y k) (z k),
+      )
+    where
+      few : (low m top : ℤ) (g n : ℕ) → low +ℤ pos g ≡ m → low +ℤ pos n ≡ top → m ≤ℤ top → g < n + 1
+      few low m top g n e k l = omega (arith, ints, e, k, l)
+
+  -- the last voxel of the first plane lies in the same rows of the leaf
+  ends : (c : ℕ) × (r : ℕ) × (c < 8) × (r < 8) × ((a : ℕ) × (o ≡ a * 64 + c * 8 + r)) × (c + dy < 8) × (r + dz < 8)
+  ends =
+      let w : InPart (0, (dy, dz)) = (omega arith, (omega arith, omega arith)) in
+      let same = h.block p (voxel_at p (0, (dy, dz))) h.inside (at_inside (0, (dy, dz)) w) in
+      let y = rest_along p.y dy (ap (λ (c : Coord). c.y) same) in
+      let z = rest_along p.z dz (ap (λ (c : Coord). c.z) same) in (
+        rest 8 p.y / 1,
+        rest 8 p.z / 1,
+        rest_small p.y,
+        rest_small p.z,
+        (rest 8 p.x / 1, by (rest 8 p.x / 1) (rest 8 p.y / 1) (rest 8 p.z / 1) o h.entry),
+        subst (λ (n : ℕ). n < 8) y (rest_small (p.y +ℤ pos dy)),
+        subst (λ (n : ℕ). n < 8) z (rest_small (p.z +ℤ pos dz)),
+      )
+    where
+      by : (a c r o : ℕ) → o ≡ (a * 8 + c) * 8 + r → o ≡ a * 64 + c * 8 + r
+      by a c r o e = omega (arith, e)
+
+  pub part_row : (x : ℕ) → (o + 64 * x) % 8 + (dz + 1) ≤ 8
+  part_row x = by ends.4.0 ends.0 ends.1 o dz ends.4.1 ends.6
+    where
+      by : (a c r o z : ℕ) → o ≡ a * 64 + c * 8 + r → r + z < 8 → (o + 64 * x) % 8 + (z + 1) ≤ 8
+      by a c r o z e l = omega (arith, e, l)
+
+  pub part_entry : (x y : ℕ) → x < dx + 1 → y < dy + 1 → o + 64 * x + 8 * y < 512
+  part_entry x y k l = by (offset vdb leaf_level (voxel_at p (x, (y, 0)))) (o + 64 * x + 8 * y) (at_offset (x, (y, 0)) (k, (l, omega arith))) (offset_below vdb leaf_level (voxel_at p (x, (y, 0))))
+    where
+      by : (m n : ℕ) → m ≡ n + 0 → m < 512 → n < 512
+      by m n e l = omega (arith, e, l)
+
+  pub part_reach : (len : ℕ) → place b s b.max < len → (x y z : ℕ) → x < dx + 1 → y < dy + 1 → z < dz + 1 → first + x * s.x + y * s.y + z * s.z < len
+  part_reach len reach x y z k l m =
+      by (place b s (voxel_at p (x, (y, z)))) (first + x * s.x + y * s.y + z * s.z) (place b s b.max) (at_place (x, (y, z)))
+      (place_at_most b s (voxel_at p (x, (y, z))) (h.within (voxel_at p (x, (y, z))) (at_inside (x, (y, z)) (k, (l, m))))) reach
+    where
+      by : (m n top : ℕ) → m ≡ n → m ≤ top → top < len → n < len
+      by m n top e most reach = omega (arith, e, most, reach)
+
+  pub plane_apart : (x n : ℕ) (i j : ℕ × ℕ) → n < x → InPlane i → InPlane j → o + 64 * x + 8 * j.0 + j.1 ≢ o + 64 * n + 8 * i.0 + i.1
+  plane_apart x n i j less k l e = by ends.0 ends.1 i.0 i.1 j.0 j.1 ends.5 ends.6 k.0 k.1 l.0 l.1 e
+    where
+      by : (c r a f d g : ℕ) → c + dy < 8 → r + dz < 8 → a < dy + 1 → f < dz + 1 → d < dy + 1 → g < dz + 1 → o + 64 * x + 8 * d + g ≡ o + 64 * n + 8 * a + f → ⊥
+      by c r a f d g hc hr ha hf hd hg e = omega (arith, less, hc, hr, ha, hf, hd, hg, e)
+
+  pub plane_below : (n : ℕ) (j : ℕ × ℕ) → n < dx + 1 → InPlane j → o + 64 * n + 8 * j.0 + j.1 < 512
+  plane_below n j k l = row_below (o + 64 * n) j.0 j.1 (dz + 1) (part_row n) (part_entry n j.0 k l.0) l.1
+
+  -- the cells of the voxels from those of the planes
+  pub part_given : {V : Type 0} (cell : ℕ → Cell V) (old new : ℕ → Cell V) (n : ℕ) → n ≡ dx + 1 → HaveCells InPlane (λ x j. o + 64 * x + 8 * j.0 + j.1) (λ x j. cell (first + x * s.x + j.0 * s.y + j.1 * s.z)) n old new
+      → HasCells (λ (q : Coord). IsTrue (is_inside part q)) (offset vdb leaf_level) (λ q. cell (place b s q)) old new
+  part_given cell old new m all given = record {
+    within = λ q i.
+        let v = voxel_of q i in
+        let first_below = v.1.0 in
+        subst (λ (r : Coord). new (offset vdb leaf_level r) ≡ cell (place b s r)) v.2 (ap new (at_offset v.0 v.1) ∙ given.within v.0 (omega (arith, first_below, all), v.1.1) ∙ sym (ap cell (at_place v.0)));
+    others = λ i l out. given.others i l (λ n w e.
+        let below = w.0 in
+        let k : InPart n = (omega (arith, below, all), w.1) in
+        out (voxel_at p n) (at_inside n k) (at_offset n k ∙ e));
   }
 
-  module _ (block : (q r : Coord) → IsTrue (is_inside part q) → IsTrue (is_inside part r) → block_number vdb leaf_level q ≡ block_number vdb leaf_level r)
-      (max p : Coord) (old mid new : Leaf V) (h : AreGivenUpTo max p old mid) (at : ℕ) (at_is : at ≡ offset vdb leaf_level p) (c : Cell V) (c_is : c ≡ cell p) (set : SetsVoxel mid new at c) where
-    apart : (q : Coord) → IsTrue (h.given.0 q) → offset vdb leaf_level q ≢ offset vdb leaf_level p
-    apart q k e = not_yet part p h.inside h.given.0 h.given.1 (subst (λ (r : Coord). h.given.0 r ≡ true) (voxel_from_leaf vdb q p (block q p (h.given.1.inside q k) h.inside) e) k)
+-- ---- the leaf afterwards
 
-    here : (d : Cell V) → cell_in d new (offset vdb leaf_level p) ≡ cell p
-    here d = subst (λ (i : ℕ). cell_in d new i ≡ cell p) at_is (set.changed d ∙ c_is)
+module _ {V I : Type 0} (Within : I → Type 0) (entry : I → ℕ) (cell : I → Cell V) (old : ℕ → Cell V) (background : V) (leaf : Leaf V) (d : Cell V) (blank : Bool) (h : HasCells Within entry cell old (cells_of background blank leaf d)) where
+  pub as_blank : blank ≡ true → HasCells Within entry cell old (λ i. off background)
+  as_blank e = subst (λ (b : Bool). HasCells Within entry cell old (cells_of background b leaf d)) e h
 
-    others : (d : Cell V) (i : ℕ) → offset vdb leaf_level p ≢ i → cell_in d new i ≡ cell_in d mid i
-    others d i ne = set.others d i (λ e. ne (sym at_is ∙ sym e))
-
-    given_next : HasCells (λ q. IsTrue (with_voxel h.given.0 p q)) cell old new
-    given_next = record {
-      voxels = λ d q k. elim (or_ways (h.given.0 q) (coord_eq p q) k) [
-        | inl l ↦ others d (offset vdb leaf_level q) (λ e. apart q l (sym e)) ∙ h.given.2.voxels d q l
-        | inr e ↦ subst (λ (r : Coord). cell_in d new (offset vdb leaf_level r) ≡ cell r) (coord_exact p q e) (here d)
-      ];
-      others = λ d i out. others d i (out p (or_second (h.given.0 p) (coord_eq p p) (coord_equiv.refl p))) ∙ h.given.2.others d i (λ q k. out q (or_first (h.given.0 q) (coord_eq p q) k));
-    }
-
-    pub given_on : (next : Coord) → IsNextVoxel part p (Some next) → AreGivenUpTo max next old new
-    given_on next n = record {
-      max_is = h.max_is;
-      inside = n.0;
-      given = (with_voxel h.given.0 p, up_to_next part p h.inside h.given.0 h.given.1 next n, given_next);
-    }
-
-    pub given_last : IsNextVoxel part p None → HasCells (λ q. IsTrue (is_inside part q)) cell old new
-    given_last n = record {
-      voxels = λ d q i. given_next.voxels d q (all_passed part p h.inside h.given.0 h.given.1 n q i);
-      others = λ d i out. given_next.others d i (λ q k. out q (with_inside part p h.inside h.given.0 h.given.1 q k));
-    }
-
--- the cell of the element of a voxel, as the code reads it
-pub read_cell : {V X : Type 0} (eq : V → V → Bool) (value : X → V) (background : V) (b : Box) (s : Strides) (values : List X) (p : Coord) (index : ℕ) (x : X)
-    → index ≡ place b s p → index < length values → x ≡ get_or values index x → cell_of_element eq value background x ≡ cell_given eq value background b s values p
-read_cell {X = X} eq value background b s values p index x at lt is =
-    let got : slice_get values index ≡ Some x = slice_get-get_or values index x lt ∙ ap Some (sym is) in
-    ap (λ (o : Option X). option_map_or (cell_of_element eq value background) o (record { value = background; on = false })) (sym got ∙ ap (slice_get values) at)
-
--- the next voxel of a row has the next offset
-module _ (part : Box) (block : (q r : Coord) → IsTrue (is_inside part q) → IsTrue (is_inside part r) → block_number vdb leaf_level q ≡ block_number vdb leaf_level r)
-    (p : Coord) (inside : IsTrue (is_inside part p)) (next : IsTrue (is_inside part (coord p.x p.y (p.z +ℤ pos 1)))) (at : ℕ) (at_is : at ≡ offset vdb leaf_level p) where
-  pub next_offset : at + 1 ≡ offset vdb leaf_level (coord p.x p.y (p.z +ℤ pos 1))
-  next_offset = ap (λ (n : ℕ). n + 1) at_is ∙ sym (row_offset p 1 (block p (coord p.x p.y (p.z +ℤ pos 1)) inside next))
+  pub as_laid : blank ≡ false → HasCells Within entry cell old (cell_in d leaf)
+  as_laid e = subst (λ (b : Bool). HasCells Within entry cell old (cells_of background b leaf d)) e h

@@ -22,7 +22,6 @@ pub mod RowFields
 pub mod CopiedRows
 pub mod LeafCopies
 pub mod LeafFields
-pub mod BlankParts
 pub mod GivenLeaves
 pub mod GivenFields
 pub mod BuiltGrids

@@ -1,10 +1,9 @@
 -- What a call that makes a grid of an array's elements does.
 use Rattle.std.specs.Prelude.{◌≡◌, ◌≢◌, ◌⊎◌, ◌<◌, ℕ, ℤ, ⊤, Bool, not, if◌then◌else◌, IsTrue, List, Option, Some, None, length, slice_get}
 use Rattle.std.specs.Option.{option_map_or}
-use Rattle.vdb_coord.specs.Blocks.{offset, vdb}
+use Rattle.vdb_coord.specs.Blocks.{vdb}
 use Rattle.vdb_coord.specs.Space.{Box, everywhere, is_inside}
 use Rattle.vdb_coord.specs.declared.Coord.{Coord}
-use Rattle.vdb_coord.specs.declared.Level.TheVariants.{Leaf as leaf_level}
 use Rattle.vdb_node.specs.Leaf.{cell_in, Leaf}
 use Rattle.vdb_value.specs.declared.Cell.{Cell}
 use Rattle.vdb_value.specs.declared.Kind.{Kind}
@@ -29,19 +28,27 @@ module _ {V X : Type 0} (eq : V → V → Bool) (value : X → V) (background : 
   abbrev pub cell_of_element : X → Cell V
   cell_of_element x = record { value = value x; on = not (eq (value x) background) }
 
+  -- the cell of an element of an array, by its index
+  abbrev pub cell_at : List X → ℕ → Cell V
+  cell_at values n = option_map_or cell_of_element (slice_get values n) (off background)
+
   module _ (b : Box) (s : Strides) (values : List X) where
     -- the cell of a voxel of a box: that of its element
     abbrev pub cell_given : Coord → Cell V
-    cell_given p = option_map_or cell_of_element (slice_get values (place b s p)) (off background)
+    cell_given p = cell_at values (place b s p)
 
     -- the field in which the voxels of a box have the cells of their elements, and all others are the inactive background
     abbrev pub field_given : Field V
     field_given = field background (λ p. if is_inside b p then cell_given p else off background)
 
--- these voxels of a leaf have these cells, and each other entry stays
-pub record HasCells {V : Type 0} (Within : Coord → Type 0) (cell : Coord → Cell V) (old new : Leaf V) : Type 0 where
-  pub voxels : (d : Cell V) (q : Coord) → Within q → cell_in d new (offset vdb leaf_level q) ≡ cell q
-  pub others : (d : Cell V) (i : ℕ) → ((q : Coord) → Within q → offset vdb leaf_level q ≢ i) → cell_in d new i ≡ cell_in d old i
+-- the cells of a leaf by their index, or those of a blank one: each the inactive background
+abbrev pub cells_of : {V : Type 0} → V → Bool → Leaf V → Cell V → ℕ → Cell V
+cells_of background blank leaf d i = if blank then off background else cell_in d leaf i
+
+-- these entries of a leaf have these cells, and each other one stays
+pub record HasCells {V I : Type 0} (Within : I → Type 0) (entry : I → ℕ) (cell : I → Cell V) (old new : ℕ → Cell V) : Type 0 where
+  pub within : (n : I) → Within n → new (entry n) ≡ cell n
+  pub others : (i : ℕ) → i < 512 → ((n : I) → Within n → entry n ≢ i) → new i ≡ old i
 
 -- these voxels of a field have these cells, and every other stays; each either is in the box and has its cell, or stays
 pub record AreGiven {V : Type 0} (b : Box) (Within : Coord → Type 0) (cell : Coord → Cell V) (old new : Field V) : Type 0 where

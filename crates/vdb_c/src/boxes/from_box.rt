@@ -1,10 +1,12 @@
 //! A grid made of the elements of a box of voxels, in one pass over them.
 ghost use Rattle.std.specs.Option.{option_map};
-ghost use Rattle.std.specs.Prelude.{◌≡◌, ◌⊎◌, ◌<◌, ◌^◌, Err, IfErr, IfOk, IfSome, IsTrue, OnOk, Option, Some, length};
-ghost use Rattle.vdb_coord.specs.Blocks.{block_number, vdb};
+ghost use Rattle.std.specs.Prelude.{◌≡◌, ◌⊎◌, ◌+◌, ◌*◌, ◌%◌, ◌<◌, ◌≤◌, ◌^◌, ℕ, Err, IfErr, IfOk, IfSome, IsTrue, OnOk, Option, Some, length, slice_index_or};
+ghost use Rattle.vdb_coord.specs.Blocks.{block_number, offset, vdb};
 ghost use Rattle.vdb_coord.specs.Space.{everywhere, is_inside};
 ghost use Rattle.vdb_coord.specs.declared.Coord.{Coord};
 ghost use Rattle.vdb_coord.specs.declared.Level.TheVariants.{Leaf as leaf_level};
+ghost use Rattle.vdb_mask.specs.Mask.{is_on};
+ghost use Rattle.vdb_node.specs.Leaf.{cell_in};
 ghost use Rattle.vdb_value.specs.declared.Cell.{Cell};
 ghost use Rattle.vdb_value.specs.declared.Kind.TheVariants as kinds;
 ghost use Rattle.vdb_tree.specs.ConstantBlocks.{roots};
@@ -18,13 +20,12 @@ ghost use Rattle.vdb_scene.specs.declared.scalar.Scalar.TheVariants as scalars;
 ghost use Rattle.vdb_c.specs.BoxWrites.{box_written};
 ghost use Rattle.vdb_c.specs.Codes.{done, memory};
 ghost use Rattle.vdb_c.specs.Elements.{place as place_of};
-ghost use Rattle.vdb_c.specs.FromBox.{AreGiven, HasCells, IsBuilt, IsTreeOf, background_given, cell_given, cell_of_element, field_given};
+ghost use Rattle.vdb_c.specs.FromBox.{AreGiven, HasCells, IsBuilt, IsTreeOf, background_given, cell_at, cell_given, cell_of_element, cells_of, field_given};
 ghost use Rattle.vdb_c.specs.LeafWrites.{IsBeside};
 ghost use Rattle.vdb_c.specs.Values.{byte_is_on};
 
 use crate::boxes::arrays::bounds_beside;
-use crate::boxes::elements::{Strides, place};
-use crate::boxes::voxels::next_voxel;
+use crate::boxes::elements::{Strides, gaps, place};
 use crate::codes::{DONE, MEMORY, OUT_OF_RANGE, tree_code};
 use crate::handles::GridHandle;
 use crate::values::numbers::Number;
@@ -32,6 +33,7 @@ use crate::values::{Corners, is_byte_on};
 use std::alloc::Global;
 use vdb_coord::{Bits, Bounds, Coord, Level};
 use vdb_grid::Grid;
+use vdb_mask::Mask;
 use vdb_node::Leaf;
 use vdb_pool::Steps;
 use vdb_scene::{AnyGrid, MOST_ROOT_LIMIT};
@@ -167,6 +169,8 @@ fn made<V: Number, T: Given<V>>(
     steps: &mut Steps,
 ) -> Result<Tree<V>, i32>
     ensures made { IfOk result (λ tree. IsTreeOf V.KIND V.eq V.as_scalar (λ x. V.as_scalar (T.value x)) background limit corners.now strides.now values.now tree) }
+    ensures some { IfOk result (λ tree. 1 ≤ tree.limit) }
+    ensures few { IfOk result (λ tree. tree.limit ≤ 65536) }
     ensures refused { IfErr result (λ code. (g : Option AnyGrid) → IsBuilt V.KIND (λ x. V.as_scalar (T.value x)) background limit corners.now strides.now values.now g g code) }
 {
     let Some(background) = background_of(background, limit) else {
@@ -183,7 +187,9 @@ fn made<V: Number, T: Given<V>>(
 
 /// Returns the background of a number: `None` if the type doesn't have it, or the limit is 0 or above 65,536.
 fn background_of<V: Number>(background: i64, limit: u32) -> Option<V>
-    ensures { option_map V.as_scalar result ≡ background_given V.KIND background limit }
+    ensures value { option_map V.as_scalar result ≡ background_given V.KIND background limit }
+    ensures some { IfSome result (λ _. 1 ≤ limit) }
+    ensures few { IfSome result (λ _. limit ≤ 65536) }
 {
     if limit == 0 || limit > MOST_ROOT_LIMIT {
         return None;
@@ -227,8 +233,169 @@ fn cell_of<V: Number, T: Given<V>>(element: T, background: V) -> Cell<V>
     }
 }
 
-/// Returns whether each element of a part of a box has the background.
-fn is_blank<V: Number, T: Given<V>>(
+/// Returns whether each element of a row has the background.
+#[inline(always)]
+fn are_blank<V: Number, T: Given<V>>(
+    values: &[T],
+    first: usize,
+    stride: usize,
+    count: usize,
+    background: V,
+) -> bool
+    requires reach { (k : ℕ) → k < count → first + k * stride < length values.now }
+    ensures { IsTrue result → (k : ℕ) → k < count → cell_at V.eq T.value background values.now (first + k * stride) ≡ off background }
+{
+    let mut blank = true;
+    'voxels: for k in 0..count {
+        blank &= values[first + k * stride].value() == background;
+    }
+    blank
+}
+
+/// Copies the values of a row of elements, and returns the states of their cells: active unless the value is the background.
+#[inline(always)]
+fn read_row<V: Number, T: Given<V>>(
+    values: &[T],
+    first: usize,
+    stride: usize,
+    count: usize,
+    background: V,
+    row: &mut [V],
+) -> Mask<1>
+    requires few { count ≤ 64 }
+    requires room { count ≤ length row.old }
+    requires reach { (k : ℕ) → k < count → first + k * stride < length values.now }
+    ensures length { length row.new ≡ length row.old }
+    ensures cells { (k : ℕ) (d : V) → k < count → record { value = slice_index_or row.new k d; on = is_on result k } ≡ cell_at V.eq T.value background values.now (first + k * stride) }
+{
+    let mut states = Mask::off();
+    'voxels: for k in 0..count {
+        let cell = cell_of(values[first + k * stride], background);
+        row[k] = cell.value;
+        if cell.on {
+            states.set(k as u32);
+        }
+    }
+    states
+}
+
+/// Makes each cell of a leaf the inactive background, if it stands for a blank one.
+#[inline(always)]
+fn begin<V: Number>(leaf: &mut Leaf<V, 3, 8>, blank: bool, background: V)
+    ensures { (d : Cell V) (i : ℕ) → i < 512 → cell_in d leaf.new i ≡ cells_of background blank leaf.old d i }
+{
+    if blank {
+        leaf.fill_run(
+            0,
+            512,
+            Cell {
+                value: background,
+                on: false,
+            },
+        );
+    }
+}
+
+/// Writes the elements of a row to a leaf from the entry of this index on. Returns whether the leaf still stands for a blank one.
+#[inline(always)]
+fn lay_row<V: Number, T: Given<V>>(
+    leaf: &mut Leaf<V, 3, 8>,
+    blank: bool,
+    offset: u32,
+    count: usize,
+    values: &[T],
+    first: usize,
+    stride: usize,
+    background: V,
+) -> bool
+    requires in_row { offset % 8 + count ≤ 8 }
+    requires within { offset < 512 }
+    requires reach { (k : ℕ) → k < count → first + k * stride < length values.now }
+    ensures { (d : Cell V) → HasCells (λ (k : ℕ). k < count) (λ k. offset + k) (λ k. cell_at V.eq T.value background values.now (first + k * stride)) (cells_of background blank leaf.old d) (cells_of background result leaf.new d) }
+{
+    if blank && are_blank(values, first, stride, count, background) {
+        return true;
+    }
+    begin(leaf, blank, background);
+    let mut row = [background; 8];
+    let states = read_row(values, first, stride, count, background, &mut row);
+    leaf.set_cells(offset, &row[..count], &states);
+    false
+}
+
+/// Writes the elements of rows to a leaf, each eight entries after the one before it. Returns whether the leaf still stands for a blank one.
+#[inline(always)]
+fn lay_rows<V: Number, T: Given<V>>(
+    leaf: &mut Leaf<V, 3, 8>,
+    blank: bool,
+    offset: u32,
+    rows: usize,
+    count: usize,
+    values: &[T],
+    first: usize,
+    step: usize,
+    stride: usize,
+    background: V,
+) -> bool
+    requires in_row { offset % 8 + count ≤ 8 }
+    requires some { 0 < count }
+    requires within { (y : ℕ) → y < rows → offset + 8 * y < 512 }
+    requires reach { (y k : ℕ) → y < rows → k < count → first + y * step + k * stride < length values.now }
+    ensures { (d : Cell V) → HasCells (λ (n : ℕ × ℕ). (n.0 < rows) × (n.1 < count)) (λ n. offset + 8 * n.0 + n.1) (λ n. cell_at V.eq T.value background values.now (first + n.0 * step + n.1 * stride)) (cells_of background blank leaf.old d) (cells_of background result leaf.new d) }
+{
+    let mut blank = blank;
+    'rows: for y in 0..rows {
+        blank = lay_row(
+            leaf,
+            blank,
+            offset + 8 * y as u32,
+            count,
+            values,
+            first + y * step,
+            stride,
+            background,
+        );
+    }
+    blank
+}
+
+/// Does what `lay_rows` does, with rows of eight and a stride of 1 as numbers that the compiler knows.
+fn lay_plane<V: Number, T: Given<V>>(
+    leaf: &mut Leaf<V, 3, 8>,
+    blank: bool,
+    offset: u32,
+    rows: usize,
+    count: usize,
+    values: &[T],
+    first: usize,
+    strides: &Strides,
+    background: V,
+) -> bool
+    requires in_row { offset % 8 + count ≤ 8 }
+    requires some { 0 < count }
+    requires within { (y : ℕ) → y < rows → offset + 8 * y < 512 }
+    requires reach { (y k : ℕ) → y < rows → k < count → first + y * strides.now.y + k * strides.now.z < length values.now }
+    ensures { (d : Cell V) → HasCells (λ (n : ℕ × ℕ). (n.0 < rows) × (n.1 < count)) (λ n. offset + 8 * n.0 + n.1) (λ n. cell_at V.eq T.value background values.now (first + n.0 * strides.now.y + n.1 * strides.now.z)) (cells_of background blank leaf.old d) (cells_of background result leaf.new d) }
+{
+    if count == 8 && strides.z == 1 {
+        lay_rows(
+            leaf, blank, offset, rows, 8, values, first, strides.y, 1, background,
+        )
+    } else if count == 8 {
+        lay_rows(
+            leaf, blank, offset, rows, 8, values, first, strides.y, strides.z, background,
+        )
+    } else {
+        lay_rows(
+            leaf, blank, offset, rows, count, values, first, strides.y, strides.z, background,
+        )
+    }
+}
+
+/// Writes the elements of a part of a box, which lies in one leaf extent, to a leaf, whose other voxels become the inactive background. Returns
+/// whether all have the background: then the leaf may have any cells.
+fn lay<V: Number, T: Given<V>>(
+    leaf: &mut Leaf<V, 3, 8>,
     part: Bounds,
     bounds: Bounds,
     strides: &Strides,
@@ -238,71 +405,28 @@ fn is_blank<V: Number, T: Given<V>>(
     requires within { (q : Coord) → IsTrue (is_inside part q) → IsTrue (is_inside bounds q) }
     requires reach { place_of bounds strides.now bounds.max < length values.now }
     requires fits { place_of bounds strides.now bounds.max < 2 ^ 64 }
-    ensures { IsTrue result → (q : Coord) → IsTrue (is_inside part q) → cell_given V.eq T.value background bounds strides.now values.now q ≡ off background }
-{
-    let max = part.max();
-    let stride = strides.z;
-    let mut p = part.min();
-    'rows: loop {
-        let mut index = place(bounds, strides, p);
-        'row: while p.z < max.z {
-            if values[index].value() != background {
-                return false;
-            }
-            p = Coord {
-                x: p.x,
-                y: p.y,
-                z: p.z + 1,
-            };
-            index += stride;
-        }
-        if values[index].value() != background {
-            return false;
-        }
-        match next_voxel(part, p) {
-            Some(next) => p = next,
-            None => return true,
-        }
-    }
-}
-
-/// Writes the elements of a part of a box, which lies in one leaf extent, to a leaf.
-fn lay<V: Number, T: Given<V>>(
-    leaf: &mut Leaf<V, 3, 8>,
-    part: Bounds,
-    bounds: Bounds,
-    strides: &Strides,
-    values: &[T],
-    background: V,
-)
-    requires within { (q : Coord) → IsTrue (is_inside part q) → IsTrue (is_inside bounds q) }
-    requires reach { place_of bounds strides.now bounds.max < length values.now }
-    requires fits { place_of bounds strides.now bounds.max < 2 ^ 64 }
     requires block { IsInOneLeaf vdb part }
-    ensures { HasCells (λ q. IsTrue (is_inside part q)) (cell_given V.eq T.value background bounds strides.now values.now) leaf.old leaf.new }
+    ensures { (d : Cell V) → HasCells (λ q. IsTrue (is_inside part q)) (offset vdb leaf_level) (cell_given V.eq T.value background bounds strides.now values.now) (λ i. off background) (cells_of background result leaf.new d) }
 {
-    let max = part.max();
-    let stride = strides.z;
-    let mut p = part.min();
-    'rows: loop {
-        let mut index = place(bounds, strides, p);
-        let mut offset = p.offset(Level::Leaf) as u32;
-        'row: while p.z < max.z {
-            leaf.set(offset, cell_of(values[index], background));
-            p = Coord {
-                x: p.x,
-                y: p.y,
-                z: p.z + 1,
-            };
-            index += stride;
-            offset += 1;
-        }
-        leaf.set(offset, cell_of(values[index], background));
-        match next_voxel(part, p) {
-            Some(next) => p = next,
-            None => return,
-        }
+    let min = part.min();
+    let first = place(bounds, strides, min);
+    let offset = min.offset(Level::Leaf) as u32;
+    let (dx, dy, dz) = gaps(min, part.max());
+    let mut blank = true;
+    'planes: for x in 0..dx + 1 {
+        blank = lay_plane(
+            leaf,
+            blank,
+            offset + 64 * x as u32,
+            dy + 1,
+            dz + 1,
+            values,
+            first + x * strides.x,
+            strides,
+            background,
+        );
     }
+    blank
 }
 
 /// Gives the leaf extent around a coordinate, which is all background, the cells of the elements of a box. `leaf` holds them meanwhile.
@@ -328,18 +452,9 @@ fn give_leaf<V: Number, T: Given<V>>(
     let Some(part) = bounds.intersect(p.block(Level::Leaf)) else {
         return Ok(());
     };
-    if is_blank(part, bounds, strides, values, background) {
+    if lay(leaf, part, bounds, strides, values, background) {
         return Ok(());
     }
-    leaf.fill_run(
-        0,
-        512,
-        Cell {
-            value: background,
-            on: false,
-        },
-    );
-    lay(leaf, part, bounds, strides, values, background);
     tree.write_leaf(p, leaf, steps)
 }
 

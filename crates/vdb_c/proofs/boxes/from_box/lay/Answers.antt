@@ -1,108 +1,55 @@
-use Rattle.vdb_c.proofs.Common.{◌∙◌, ◌<◌, ap, arith, rules, SFits, w32, both, min_inside, length, offset, vdb, place}
-use Rattle.vdb_coord.specs.declared.Level.TheVariants.{Leaf as leaf_level}
-use Rattle.vdb_c.specs.FromBox.{cell_given}
-use Rattle.vdb_c.proofs.GivenLeaves.{given_first, given_last, given_on, next_offset, read_cell}
-use Rattle.vdb_c.proofs.NextVoxels.{next_along_z}
-use Rattle.vdb_c.proofs.Places.{next_along, place_at_most}
-use Rattle.vdb_c.proofs.RowsLaid.{further, moved, same_next}
+use Rattle.vdb_c.proofs.Common.{◌≡◌, ◌+◌, ◌^◌, ℕ, IsTrue, arith, both, is_inside, min_inside, subst, Coord, off}
+use Rattle.vdb_c.specs.FromBox.{cell_at, cells_of}
+use Rattle.vdb_c.proofs.GivenLeaves.{IsPartAt, have_next, have_none, part_at, part_entry, part_given, part_row, part_reach, plane_apart, plane_below}
 use Rattle.vdb_c.proofs.boxes.from_box.lay.Goals as goal
 
-pub rows-init : goal.rows-init
-rows-init g c =
-    given_first c.args.part _ c.max-max.result c.min-p.result c.args.leaf.now c.max-max.ensures.corner
-    (rw c.min-p.ensures.corner (min_inside c.args.part (both _ _ c.min-p.ensures.bounds).0)) c.min-p.ensures.corner
+pub place-first-requires-clause-inside : goal.place-first-requires-clause-inside
+place-first-requires-clause-inside g c = c.requires.within c.min-min.result (rw c.min-min.ensures.corner (min_inside c.args.part (both _ _ c.min-min.ensures.bounds).0))
 
-pub place-index-requires-clause-inside : goal.place-index-requires-clause-inside
-place-index-requires-clause-inside g c = c.requires.within c.rows.p c.rows.invariant.inside
-
-pub offset_bounds-values-index : goal.offset_bounds-values-index
-offset_bounds-values-index g c =
-    let most = place_at_most c.args.bounds c.args.strides.now c.row.p (c.requires.within c.row.p c.row.invariant.given.inside) in
-    omega (arith, most, c.row.invariant.at, c.requires.reach)
-
-pub bounds-values-index : goal.bounds-values-index
-bounds-values-index g c =
-    let most = place_at_most c.args.bounds c.args.strides.now c.row.p (c.requires.within c.row.p c.row.invariant.given.inside) in
-    omega (arith, most, c.row.invariant.at, c.requires.reach)
-
-pub overflow_add-index : goal.overflow_add-index
-overflow_add-index g c =
-    let p = c.row.p in
-    let m = c.max-max.result in
-    let x : SFits w32 c.row.p.x = search rules in
-    let y : SFits w32 c.row.p.y = search rules in
-    let z : SFits w32 c.row.p.z = search rules in
-    let end : SFits w32 c.max-max.result.z = search rules in
-    let h = c.row.invariant.given in
-    let all = next_along c.args.bounds c.args.strides.now c.args.part c.requires.within p h.inside (further c.args.part p m h.inside x y z end c.max-max.ensures.corner c.row-test.true) c.requires.fits c.row.index c.row.invariant.at in
-    omega (arith, all.0)
-
-pub row-smaller : goal.row-smaller
-row-smaller g c =
-    let p = c.row.p in
-    let m = c.max-max.result in
-    let x : SFits w32 c.row.p.x = search rules in
-    let y : SFits w32 c.row.p.y = search rules in
-    let z : SFits w32 c.row.p.z = search rules in
-    let end : SFits w32 c.max-max.result.z = search rules in
-    (moved c.args.part p m c.row.invariant.given.inside x y z end c.max-max.ensures.corner c.row-test.true).1
-
-pub row-preserved : goal.row-preserved
-row-preserved g c =
-    let p = c.row.p in
-    let m = c.max-max.result in
-    let x : SFits w32 c.row.p.x = search rules in
-    let y : SFits w32 c.row.p.y = search rules in
-    let z : SFits w32 c.row.p.z = search rules in
-    let end : SFits w32 c.max-max.result.z = search rules in
-    let h = c.row.invariant.given in
-    let b = c.args.bounds in
-    let s = c.args.strides.now in
-    let most = place_at_most b s p (c.requires.within p h.inside) in
-    let there : c.row.index < length c.args.values.now = omega (arith, most, c.row.invariant.at, c.requires.reach) in
-    let less = further c.args.part p m h.inside x y z end c.max-max.ensures.corner c.row-test.true in
-    let same = same_next c.args.part p m h.inside x y z end c.max-max.ensures.corner c.row-test.true in
-    let next = moved c.args.part p m h.inside x y z end c.max-max.ensures.corner c.row-test.true in
-    let along = next_along b s c.args.part c.requires.within p h.inside less c.requires.fits c.row.index c.row.invariant.at in
-    let cell = cell_given g.V.PartialEq.eq g.T.Given.value c.args.background b s c.args.values.now in
-    let read = read_cell g.V.PartialEq.eq g.T.Given.value c.args.background b s c.args.values.now p c.row.index c.index-values-index.result c.row.invariant.at there c.index-values-index.is in
+pub planes-init : goal.planes-init
+planes-init g c =
+    let inside : IsTrue (is_inside c.args.part c.min-min.result) = rw c.min-min.ensures.corner (min_inside c.args.part (both _ _ c.min-min.ensures.bounds).0) in
+    let at = part_at c.args.bounds c.args.strides.now c.args.part c.min-min.result c.max.result c.offset-offset.result c.place-first.result c.gaps-dx.result.0 c.gaps-dx.result.1 c.gaps-dx.result.2 c.requires.within c.requires.block inside
+    c.min-min.ensures.corner c.max.ensures.corner c.gaps-dx.ensures.x c.gaps-dx.ensures.y c.gaps-dx.ensures.z c.offset-offset.ensures.value c.place-first.ensures in
     record {
-      given = given_on c.args.part cell c.requires.block m p c.args.leaf.now c.row.leaf c.set.new.self h c.row.offset c.row.invariant.entry c.cell_of.result (c.cell_of.ensures ∙ read) c.set.ensures _ next.0;
-      at = along.1 ∙ ap (place c.args.bounds c.args.strides.now) same;
-      entry = next_offset c.args.part c.requires.block p h.inside (next_along_z c.args.part p h.inside less).0 c.row.offset c.row.invariant.entry ∙ ap (offset vdb leaf_level) same;
-      left = omega (arith, next.1, c.row.invariant.left);
+      part = subst (λ (p : Coord). IsPartAt c.args.bounds c.args.strides.now c.args.part p c.offset-offset.result c.place-first.result c.gaps-dx.result.0 c.gaps-dx.result.1 c.gaps-dx.result.2) c.min-min.ensures.corner at;
+      given = λ d. have_none _ _ _ _;
     }
 
-pub offset_bounds-values-index-in-rows : goal.offset_bounds-values-index-in-rows
-offset_bounds-values-index-in-rows g c =
-    let most = place_at_most c.args.bounds c.args.strides.now c.row.p (c.requires.within c.row.p c.row.invariant.given.inside) in
-    omega (arith, most, c.row.invariant.at, c.requires.reach)
+pub overflow_mul-x : goal.overflow_mul-x
+overflow_mul-x g c = let small = part_entry _ _ _ _ _ _ _ _ _ c.planes.invariant.part c.planes.x 0 c.planes-test.true (omega arith) in omega (arith, small)
 
-pub bounds-values-index-in-rows : goal.bounds-values-index-in-rows
-bounds-values-index-in-rows g c =
-    let most = place_at_most c.args.bounds c.args.strides.now c.row.p (c.requires.within c.row.p c.row.invariant.given.inside) in
-    omega (arith, most, c.row.invariant.at, c.requires.reach)
+pub overflow_add-offset : goal.overflow_add-offset
+overflow_add-offset g c = let small = part_entry _ _ _ _ _ _ _ _ _ c.planes.invariant.part c.planes.x 0 c.planes-test.true (omega arith) in omega (arith, small)
 
-pub rows-preserved : goal.rows-preserved
-rows-preserved g c =
-    let p = c.row.p in
-    let h = c.row.invariant.given in
-    let b = c.args.bounds in
-    let s = c.args.strides.now in
-    let most = place_at_most b s p (c.requires.within p h.inside) in
-    let there : c.row.index < length c.args.values.now = omega (arith, most, c.row.invariant.at, c.requires.reach) in
-    let cell = cell_given g.V.PartialEq.eq g.T.Given.value c.args.background b s c.args.values.now in
-    let read = read_cell g.V.PartialEq.eq g.T.Given.value c.args.background b s c.args.values.now p c.row.index c.index-values-index-in-rows.result c.row.invariant.at there c.index-values-index-in-rows.is in
-    given_on c.args.part cell c.requires.block c.max-max.result p c.args.leaf.now c.row.leaf c.set-in-rows.new.self h c.row.offset c.row.invariant.entry c.cell_of-in-rows.result (c.cell_of-in-rows.ensures ∙ read) c.set-in-rows.ensures c.in-Some.next c.in-Some.ensures.next
+pub overflow_mul-x-in-planes : goal.overflow_mul-x-in-planes
+overflow_mul-x-in-planes g c = let small = part_reach _ _ _ _ _ _ _ _ _ c.planes.invariant.part (2 ^ 64) c.requires.fits c.planes.x 0 0 c.planes-test.true (omega arith) (omega arith) in omega (arith, small)
 
-pub returns-in-None : goal.returns-in-None
-returns-in-None g c =
-    let p = c.row.p in
-    let h = c.row.invariant.given in
-    let b = c.args.bounds in
-    let s = c.args.strides.now in
-    let most = place_at_most b s p (c.requires.within p h.inside) in
-    let there : c.row.index < length c.args.values.now = omega (arith, most, c.row.invariant.at, c.requires.reach) in
-    let cell = cell_given g.V.PartialEq.eq g.T.Given.value c.args.background b s c.args.values.now in
-    let read = read_cell g.V.PartialEq.eq g.T.Given.value c.args.background b s c.args.values.now p c.row.index c.index-values-index-in-rows.result c.row.invariant.at there c.index-values-index-in-rows.is in
-    given_last c.args.part cell c.requires.block c.max-max.result p c.args.leaf.now c.row.leaf c.set-in-rows.new.self h c.row.offset c.row.invariant.entry c.cell_of-in-rows.result (c.cell_of-in-rows.ensures ∙ read) c.set-in-rows.ensures c.in-None.ensures.next
+pub overflow_add-first : goal.overflow_add-first
+overflow_add-first g c = let small = part_reach _ _ _ _ _ _ _ _ _ c.planes.invariant.part (2 ^ 64) c.requires.fits c.planes.x 0 0 c.planes-test.true (omega arith) (omega arith) in omega (arith, small)
+
+pub lay_plane-blank-requires-clause-in_row : goal.lay_plane-blank-requires-clause-in_row
+lay_plane-blank-requires-clause-in_row g c = part_row _ _ _ _ _ _ _ _ _ c.planes.invariant.part c.planes.x
+
+pub lay_plane-blank-requires-clause-within : goal.lay_plane-blank-requires-clause-within
+lay_plane-blank-requires-clause-within g c = λ y h. part_entry _ _ _ _ _ _ _ _ _ c.planes.invariant.part c.planes.x y c.planes-test.true h
+
+pub lay_plane-blank-requires-clause-reach : goal.lay_plane-blank-requires-clause-reach
+lay_plane-blank-requires-clause-reach g c = λ y k h l. part_reach _ _ _ _ _ _ _ _ _ c.planes.invariant.part _ c.requires.reach c.planes.x y k c.planes-test.true h l
+
+pub planes-preserved : goal.planes-preserved
+planes-preserved g c =
+    let at = c.planes.invariant.part in
+    let background = c.args.background in
+    record {
+      part = at;
+      given = λ d.
+          have_next _ _ _ c.planes.x (λ i. off background) (cells_of background c.planes.blank c.planes.leaf d) (cells_of background c.lay_plane-blank.result c.lay_plane-blank.new.leaf d) (c.planes.invariant.given d) (c.lay_plane-blank.ensures d)
+          (λ n j less w. plane_below _ _ _ _ _ _ _ _ _ at n j (let l = c.planes-test.true in omega (arith, less, l)) w) (λ n i j less k l. plane_apart _ _ _ _ _ _ _ _ _ at c.planes.x n i j less k l);
+    }
+
+pub returns : goal.returns
+returns g c = λ d.
+    let background = c.args.background in
+    let end : c.planes.x ≡ c.gaps-dx.result.0 + 1 = omega (arith, c.planes-test.false, c.planes.auto.x-end) in
+    part_given _ _ _ _ _ _ _ _ _ c.planes.invariant.part (cell_at g.V.PartialEq.eq g.T.Given.value background c.args.values.now) (λ i. off background) (cells_of background c.planes.blank c.planes.leaf d) c.planes.x end (c.planes.invariant.given d)

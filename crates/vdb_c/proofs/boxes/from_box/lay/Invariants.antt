@@ -1,22 +1,11 @@
-use Rattle.vdb_c.proofs.Common.{◌≡◌, ◌≤◌, offset, vdb, coordinates_after, place}
-use Rattle.vdb_coord.specs.declared.Level.TheVariants.{Leaf as leaf_level}
-use Rattle.vdb_c.specs.FromBox.{cell_given}
-use Rattle.vdb_c.proofs.GivenLeaves.{AreGivenUpTo}
+use Rattle.vdb_c.proofs.Common.{◌+◌, ◌*◌, ◌<◌, ℕ, Cell, off}
+use Rattle.vdb_c.specs.FromBox.{cell_at, cells_of}
+use Rattle.vdb_c.proofs.GivenLeaves.{HaveCells, IsPartAt}
 use Rattle.vdb_c.proofs.boxes.from_box.lay.Given as goal
 
-abbrev pub invariant-row : goal.invariant-row
-invariant-row g l = record {
-  given : AreGivenUpTo l.part (cell_given g.V.PartialEq.eq g.T.Given.value l.background l.bounds l.strides l.values) l.max l.p l.fn.leaf l.leaf;
-  at : l.index ≡ place l.bounds l.strides l.p;
-  entry : l.offset ≡ offset vdb leaf_level l.p;
-  left : coordinates_after l.p ≤ coordinates_after l.initial.p;
+abbrev pub invariant-planes : goal.invariant-planes
+invariant-planes g l = record {
+  part : IsPartAt l.fn.bounds l.strides l.fn.part l.fn.part.min l.offset l.first l.dx l.dy l.dz;
+  given : (d : Cell g.row.V.Denot) → HaveCells (λ (n : ℕ × ℕ). (n.0 < l.dy + 1) × (n.1 < l.dz + 1)) (λ x n. l.offset + 64 * x + 8 * n.0 + n.1)
+      (λ x n. cell_at g.V.PartialEq.eq g.T.Given.value l.background l.values (l.first + x * l.strides.x + n.0 * l.strides.y + n.1 * l.strides.z)) l.x (λ i. off l.background) (cells_of l.background l.blank l.leaf d);
 }
-
-abbrev pub decreases-row : goal.decreases-row
-decreases-row g l = coordinates_after l.p
-
-abbrev pub invariant-rows : goal.invariant-rows
-invariant-rows g l = AreGivenUpTo l.part (cell_given g.V.PartialEq.eq g.T.Given.value l.background l.bounds l.strides l.values) l.max l.p l.fn.leaf l.leaf
-
-abbrev pub decreases-rows : goal.decreases-rows
-decreases-rows g l = coordinates_after l.p

@@ -8,13 +8,13 @@ use Rattle.vdb_c.proofs.boxes.from_box.made.Goals as goal
 pub returns-in_default-clause-refused : goal.returns-in_default-clause-refused
 returns-in_default-clause-refused g c = λ h.
     let number : SFits w64 c.args.background = search rules in
-    let e = rw (to_z-of_z w64 c.args.background number) at c.in_default.ensures in
+    let e = rw (to_z-of_z w64 c.args.background number) at c.in_default.ensures.value in
     no_background _ _ _ _ _ _ _ _ _ _ (sym e) refl refl
 
 pub returns-in_default-bounds_given-clause-refused : goal.returns-in_default-bounds_given-clause-refused
 returns-in_default-bounds_given-clause-refused g c = λ h.
     let number : SFits w64 c.args.background = search rules in
-    let e = rw (to_z-of_z w64 c.args.background number) at c.in-Some.ensures in
+    let e = rw (to_z-of_z w64 c.args.background number) at c.in-Some.ensures.value in
     no_box _ _ _ _ _ _ _ _ _ _ (g.V.GridValue.as_scalar c.in-Some.background) (sym e) (sym c.in_default-bounds_given.ensures.value) refl refl
 
 pub returns-in-Ok-clause-made : goal.returns-in-Ok-clause-made
@@ -26,7 +26,7 @@ returns-in-Ok-clause-made g c =
     let s = c.args.strides.now in
     let values = c.args.values.now in
     let number : SFits w64 c.args.background = search rules in
-    let e = rw (to_z-of_z w64 c.args.background number) at c.in-Some.ensures in
+    let e = rw (to_z-of_z w64 c.args.background number) at c.in-Some.ensures.value in
     record {
       base = make v;
       base_is = sym e;
@@ -47,7 +47,7 @@ returns-in-Err-clause-refused g c = λ h.
     let values = c.args.values.now in
     let number : SFits w64 c.args.background = search rules in
     let fits : SFits w32 c.tree_code.result = search rules in
-    let e = rw (to_z-of_z w64 c.args.background number) at c.in-Some.ensures in
+    let e = rw (to_z-of_z w64 c.args.background number) at c.in-Some.ensures.value in
     rw (to_z-of_z w32 c.tree_code.result fits, c.tree_code.ensures)
     (built _ _ _ _ _ _ _ _ _ _ (make v) (sym e) b (sym c.in-Some-bounds_given.ensures.value)
     (refused c.args.limit (field_given scalar_eq (λ x. make (value x)) (make v) b s values) h c.in-Err.refusal (λ full. subst (λ (n : ℕ). c.args.limit < n) (sym (as_given_roots make g.V.PartialEq.eq scalar_eq g.met.V.GridValue.same_eq value v b s values)) (c.in-Err.ensures.full (ap Err full)))))
