@@ -519,7 +519,7 @@ class Session:
         slot, number = self.grid(), self.chance.randrange(VIEWS)
         grid, shown = self.maps[slot], self.view_maps[number]
         handle, refusals = self.views[number], [] if shown else [EMPTY]
-        form = self.chance.choice(["new", "share", "copy", "free", *["get"] * 4, *["many"] * 3])
+        form = self.chance.choice(["new", "share", "copy", "take", "free", *["get"] * 4, *["many"] * 3])
 
         def commit():
             if form == "new":
@@ -528,6 +528,8 @@ class Session:
                 self.view_maps[1 - number] = shown
             elif form == "copy":
                 self.maps[slot] = shown.copy()
+            elif form == "take":
+                self.view_maps[number], self.maps[slot] = None, shown
             elif form == "free":
                 self.view_maps[number] = None
 
@@ -537,6 +539,9 @@ class Session:
             return Step("vdb_view_share", [handle, self.views[1 - number]], (), refusals, commit)
         if form == "copy":
             return Step("vdb_view_copy", [handle, self.grids[slot]], (), refusals, commit, None, [slot])
+        if form == "take":
+            refusals = [RANGE] if shown and self.view_maps[1 - number] is shown else refusals
+            return Step("vdb_view_take", [handle, self.grids[slot]], (), refusals, commit, None, [slot])
         if form == "free":
             return Step("vdb_view_free", [handle], (), (), commit)
         if form == "many":
