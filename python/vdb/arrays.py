@@ -12,6 +12,7 @@ import numpy as np
 from .errors import RangeError
 from .forms import KINDS, Array, Kind, Progress, Value, check_limit, kind_of_array, narrow
 from .library import BUFFER, COORD, I16, I32, I64, LIBRARY, U16, Box, Coord, GridHandle, Held, Strides
+from .sharing import in_threads, processors
 
 #: How many voxels of a dense array are written at a time, about, and how many are read: their numbers fit the processor's cache.
 SLAB, BRICK = 2**21, 2**18
@@ -143,12 +144,36 @@ def whole_box(low: Sequence[int], shape: Sequence[int]) -> Any:
 
 
 def read_box(
-    held: Held, kind: Kind, low: Sequence[int], values: "np.ndarray | None", active: "np.ndarray | None", fill: "Value | None"
+    held: Held,
+    kind: Kind,
+    low: Sequence[int],
+    values: "np.ndarray | None",
+    active: "np.ndarray | None",
+    fill: "Value | None" = None,
+    threads: "int | None" = None,
 ) -> None:
-    """Writes a box of voxels to dense arrays of one shape. With `fill`, inactive voxels have that value. Either array may be left out.
+    """Writes a box of voxels to dense arrays of one shape. With `fill`, inactive voxels have that value. Either array may be left out. A box
+    of more than SLAB voxels is cut along x between leaves, and read by threads: so many, or one for each processor.
 
     Raises RangeError, after the bricks before it, if the dtype of `values` holds a value of a brick neither safely nor in fact.
     """
+    some = values if values is not None else active
+    assert some is not None
+    count = processors(threads)
+    count = count if some.size > SLAB else 1
+    slabs = [*spans(low[0], some.shape[0], max(8, some.shape[0] // (4 * count) // 8 * 8))] if count > 1 else [slice(0, some.shape[0])]
+
+    def read(view: Held, slab: slice) -> None:
+        corner = (low[0] + slab.start, *low[1:])
+        read_part(view, kind, corner, None if values is None else values[slab], None if active is None else active[slab], fill)
+
+    in_threads(held, read, slabs, count)
+
+
+def read_part(
+    held: Held, kind: Kind, low: Sequence[int], values: "np.ndarray | None", active: "np.ndarray | None", fill: "Value | None"
+) -> None:
+    """Writes a box of voxels to dense arrays as `read_box` does, by one thread."""
     if active is not None:
         read_array(held, None, low, active)
     if values is None:
@@ -159,7 +184,7 @@ def read_box(
     room, marks = Room(kind.dtype), Room(np.bool_)
     for part in bricks(low, values.shape):
         made, states = room.array(shape_of(part)), marks.array(shape_of(part))
-        read_box(held, kind, corner_of(low, part), made, states, None)
+        read_part(held, kind, corner_of(low, part), made, states, None)
         np.copyto(made, fill, where=~states)
         narrow(made, values[part], kind.dtype)
 

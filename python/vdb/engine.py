@@ -63,8 +63,15 @@ class Stored(Walkable):
         self._held.call("get", *at, byref(value), byref(on))
         return self._value(value.value), bool(on.value)
 
-    def _read(self, low: Coordinate, values: "np.ndarray | None", active: "np.ndarray | None", fill: "Value | None") -> None:
-        read_box(self._held, self._kind, low, values, active, fill)
+    def _read(
+        self,
+        low: Coordinate,
+        values: "np.ndarray | None",
+        active: "np.ndarray | None",
+        fill: "Value | None" = None,
+        threads: "int | None" = None,
+    ) -> None:
+        read_box(self._held, self._kind, low, values, active, fill, threads)
 
     def get_many(self, at: Array) -> "tuple[np.ndarray, np.ndarray]":
         """Returns the values and the states (bool) of voxels, arrays of length n. `at` has their coordinates, integers of shape (n, 3)."""

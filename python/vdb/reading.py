@@ -115,7 +115,14 @@ class Readable(Voxels):
         """Returns the value and the state of a voxel."""
         raise NotImplementedError
 
-    def _read(self, low: Coordinate, values: "np.ndarray | None", active: "np.ndarray | None", fill: "Value | None") -> None:
+    def _read(
+        self,
+        low: Coordinate,
+        values: "np.ndarray | None",
+        active: "np.ndarray | None",
+        fill: "Value | None" = None,
+        threads: "int | None" = None,
+    ) -> None:
         """Writes a box of at least one voxel to arrays, as `to_array` says."""
         raise NotImplementedError
 
@@ -156,7 +163,7 @@ class Readable(Voxels):
         check_bytes(part.shape, part.size * self.dtype.itemsize, MAX_BYTES)
         made = np.empty(part.shape, self.dtype)
         if made.size:
-            self._read(part.low, made, None, None)
+            self._read(part.low, made, None)
         return made.reshape(part.shown)
 
     def to_array(
@@ -167,6 +174,7 @@ class Readable(Voxels):
         out: "Out | None" = None,
         dtype: "Any" = None,
         progress: "Progress | None" = None,
+        threads: "int | None" = None,
     ) -> "tuple[np.ndarray, np.ndarray]":
         """Returns dense arrays of values and states (bool) of a box, with the axes x, y, z.
 
@@ -174,7 +182,8 @@ class Readable(Voxels):
         bounding box of the active voxels; if no voxel is active, both arrays have the shape (0, 0, 0). With `fill`, inactive voxels have
         that value in place of their own. `out` is an array for the values, or a pair for values and states, each of which may be None;
         what is given is filled and returned. `dtype` is that of the values, if it isn't that of the grid or of `out`. `progress` is called
-        with the number of voxels that are read, and of all.
+        with the number of voxels that are read, and of all. `threads` is how many threads read a large box, one for each processor if it
+        is left out; the arrays are the same for every number. A grid of `vdb.scenefile` is read by one.
 
         Raises ArrayTooLargeError, before anything is allocated, if the new arrays have more than `max_bytes` bytes. Raises RangeError if
         the dtype doesn't hold a value, which is named, and DtypeError or RangeError for other wrong arguments. After an error `out` may
@@ -194,7 +203,7 @@ class Readable(Voxels):
         step = max(1, SLAB // max(1, shape[1] * shape[2]) // 8) * 8 if progress else max(1, shape[0])
         for first in range(0, shape[0] if voxels else 0, step):
             part = slice(first, first + step)
-            self._read((low[0] + first, low[1], low[2]), values[part], active[part], fill)
+            self._read((low[0] + first, low[1], low[2]), values[part], active[part], fill, threads)
             if progress:
                 progress(min(first + step, shape[0]) * shape[1] * shape[2], voxels)
         return values, active
@@ -279,7 +288,7 @@ class Active:
         check_bytes(part.shape, part.size, MAX_BYTES)
         made = np.empty(part.shape, np.bool_)
         if made.size:
-            grid._read(part.low, None, made, None)
+            grid._read(part.low, None, made)
         return made.reshape(part.shown)
 
     def __array__(self, dtype: Any = None, copy: "bool | None" = None) -> np.ndarray:

@@ -490,6 +490,26 @@ class Threads(unittest.TestCase):
             thread.join()
         self.assertEqual(grid[0:4, 0:200, 0].tolist(), [[k] * 200 for k in range(4)])
 
+    def test_threads_fill_one_array(self):
+        """The same arrays for each number of threads, from a grid and a view, in order and out of it. The grid is whole after an error too."""
+        values = np.zeros((136, 130, 129), np.int32)
+        values[5:90, 7:100, 3:70], values[::5, ::7, ::3] = 4, np.arange(28 * 19 * 43).reshape(28, 19, 43)
+        grid, box = vdb.Grid.from_array(values, origin=LOW), (LOW, tuple(at + side - 1 for at, side in zip(LOW, values.shape)))
+        for source in (grid, vdb.View(grid)):
+            for threads in (1, 2, 7, np.int64(3), None):
+                np.testing.assert_array_equal(source.to_array(box, threads=threads), (values, values != 0))
+                out = np.empty(values.shape, np.int64, order="F")
+                source.to_array(box, fill=-1, out=out, threads=threads)
+                np.testing.assert_array_equal(out, np.where(values == 0, -1, values))
+                with self.assertRaisesRegex(vdb.RangeError, "outside int8"):
+                    source.to_array(box, dtype=np.int8, threads=threads)
+            for wrong, error in ((0, vdb.RangeError), (-1, vdb.RangeError), (True, vdb.DtypeError), ("2", vdb.DtypeError), (1.0, vdb.DtypeError)):
+                with self.assertRaises(error):
+                    source.to_array(box, threads=wrong)
+        self.assertEqual((grid.count, grid[LOW]), (np.count_nonzero(values), 0))
+        grid[0, 0, 4000] = 9
+        self.assertEqual(grid.count, np.count_nonzero(values) + 1)
+
     def test_view(self):
         values, active = sample(4)
         grid = vdb.Grid.from_array(values, active, LOW, metadata={"unit": "mm"})

@@ -168,7 +168,14 @@ class Grid(Walkable):
     def _cell(self, at: Coordinate) -> "tuple[Value, bool]":
         return self._tree.find(*at)
 
-    def _read(self, low: Coordinate, values: "np.ndarray | None", active: "np.ndarray | None", fill: "Value | None") -> None:
+    def _read(
+        self,
+        low: Coordinate,
+        values: "np.ndarray | None",
+        active: "np.ndarray | None",
+        fill: "Value | None" = None,
+        threads: "int | None" = None,
+    ) -> None:
         fill_arrays(self._tree, low, values, active, fill)
 
     def _parts(self) -> Iterator[Part]:
