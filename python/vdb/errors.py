@@ -86,7 +86,7 @@ class SumRangeError(VdbError, OverflowError):
 
 
 class KindsError(VdbError, TypeError):
-    """Two grids have values of different types, or their type has no sum."""
+    """Two grids, or a grid and an array, have values of different types, or the type has no sum."""
 
 
 class ArrayTooLargeError(VdbError, ValueError):
@@ -282,7 +282,7 @@ TEXTS = {
     3: "the grid would need more root blocks than its root limit",
     4: "an argument is out of range",
     5: "a sum is outside the type of the grid's values",
-    6: "the two grids have values of different types",
+    6: "the two grids, or the grid and an array, have values of different types",
     7: "booleans have no sum",
     8: "the scene has no such grid",
     9: "a name is a letter a to z, then up to 15 of a to z, 0 to 9 and _",

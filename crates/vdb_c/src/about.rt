@@ -29,7 +29,7 @@ fn message(code: i32) -> &'static str
         3 => "the grid would need more root blocks than its root limit\0",
         4 => "an argument is out of range\0",
         5 => "a sum is outside the type of the grid's values\0",
-        6 => "the two grids have values of different types\0",
+        6 => "the two grids, or the grid and an array, have values of different types\0",
         7 => "booleans have no sum\0",
         8 => "the scene has no such grid\0",
         9 => "a name is a letter a to z, then up to 15 of a to z, 0 to 9 and _\0",
