@@ -389,12 +389,19 @@ VDB_CODE vdb_grid_write_box(vdb_grid *grid, int32_t accessor, const vdb_box *box
                             size_t values_len, const uint8_t *states, size_t states_len, size_t *written);
 
 /* Creates a grid from an array, in one pass over it: each voxel of a box has the value of its element, and is active unless this is the
- * background. Every other voxel has the background, inactive. The values have the type of the elements: VDB_BOOL (true unless the byte is 0),
- * VDB_I32 or VDB_I64. The tree is then the smallest one, as after vdb_grid_prune. It replaces the handle's grid, which stays if the call fails.
+ * background. Every other voxel has the background, inactive. Elements of type bool make a grid of type VDB_BOOL (true unless the byte is 0),
+ * i64 make VDB_I64, and all others VDB_I32. The tree is then the smallest one, as after vdb_grid_prune. It replaces the handle's grid, which
+ * stays if the call fails.
  * VDB_RANGE: a background outside the type, a limit outside 1 to 65,536, corners out of order, strides whose axes aren't nested, or an
  * array that isn't long enough. VDB_ROOT_LIMIT. VDB_MEMORY, also where more memory would have led to VDB_ROOT_LIMIT. */
 VDB_CODE vdb_grid_from_box_bool(vdb_grid *grid, int64_t background, uint32_t limit, const vdb_box *box, const vdb_strides *strides,
                                 const uint8_t *values, size_t values_len);
+VDB_CODE vdb_grid_from_box_u8(vdb_grid *grid, int64_t background, uint32_t limit, const vdb_box *box, const vdb_strides *strides,
+                              const uint8_t *values, size_t values_len);
+VDB_CODE vdb_grid_from_box_i16(vdb_grid *grid, int64_t background, uint32_t limit, const vdb_box *box, const vdb_strides *strides,
+                               const int16_t *values, size_t values_len);
+VDB_CODE vdb_grid_from_box_u16(vdb_grid *grid, int64_t background, uint32_t limit, const vdb_box *box, const vdb_strides *strides,
+                               const uint16_t *values, size_t values_len);
 VDB_CODE vdb_grid_from_box_i32(vdb_grid *grid, int64_t background, uint32_t limit, const vdb_box *box, const vdb_strides *strides,
                                const int32_t *values, size_t values_len);
 VDB_CODE vdb_grid_from_box_i64(vdb_grid *grid, int64_t background, uint32_t limit, const vdb_box *box, const vdb_strides *strides,

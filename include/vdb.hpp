@@ -209,8 +209,9 @@ public:
     {
         check(vdb_grid_new(&grid_, static_cast<int32_t>(kind), background, limit));
     }
-    // Returns a grid with the values of an array: z fastest and without gaps, unless strides are given. The type of the elements is that of
-    // the grid: bool, int32_t or int64_t. A voxel of the box is active unless its value is the background.
+    // Returns a grid with the values of an array: z fastest and without gaps, unless strides are given. Elements of type bool or int64_t make
+    // a grid of that type, and uint8_t, int16_t, uint16_t and int32_t one of int32_t. A voxel of the box is active unless its value is the
+    // background.
     template <typename T>
     static Grid from_box(const Box &box, Span<const T> values, T background = T(), uint32_t limit = VDB_LIMIT_DEFAULT)
     {
@@ -219,16 +220,23 @@ public:
     template <typename T>
     static Grid from_box(const Box &box, const Strides &strides, Span<const T> values, T background = T(), uint32_t limit = VDB_LIMIT_DEFAULT)
     {
-        static_assert(std::is_same_v<T, bool> || std::is_same_v<T, int32_t> || std::is_same_v<T, int64_t>, "bool, int32_t or int64_t");
         static_assert(sizeof(bool) == 1, "a bool is a byte");
         Grid made;
         const T *data = detail::data_of(values);
         if constexpr (std::is_same_v<T, bool>)
             check(vdb_grid_from_box_bool(&made.grid_, background, limit, &box, &strides, reinterpret_cast<const uint8_t *>(data), values.size()));
+        else if constexpr (std::is_same_v<T, uint8_t>)
+            check(vdb_grid_from_box_u8(&made.grid_, background, limit, &box, &strides, data, values.size()));
+        else if constexpr (std::is_same_v<T, int16_t>)
+            check(vdb_grid_from_box_i16(&made.grid_, background, limit, &box, &strides, data, values.size()));
+        else if constexpr (std::is_same_v<T, uint16_t>)
+            check(vdb_grid_from_box_u16(&made.grid_, background, limit, &box, &strides, data, values.size()));
         else if constexpr (std::is_same_v<T, int32_t>)
             check(vdb_grid_from_box_i32(&made.grid_, background, limit, &box, &strides, data, values.size()));
-        else
+        else {
+            static_assert(std::is_same_v<T, int64_t>, "bool, uint8_t, int16_t, uint16_t, int32_t or int64_t");
             check(vdb_grid_from_box_i64(&made.grid_, background, limit, &box, &strides, data, values.size()));
+        }
         return made;
     }
 

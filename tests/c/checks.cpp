@@ -570,7 +570,7 @@ template <typename T> static void from_box_of(T low, T high)
 {
     const vdb::Box box = {{-9, 6, 7}, {2, 8, 16}};
     std::unique_ptr<T[]> values(new T[400]);
-    vdb::Grid written(std::is_same_v<T, bool> ? vdb::Kind::boolean : std::is_same_v<T, int32_t> ? vdb::Kind::i32 : vdb::Kind::i64, low, 9);
+    vdb::Grid written(std::is_same_v<T, bool> ? vdb::Kind::boolean : std::is_same_v<T, int64_t> ? vdb::Kind::i64 : vdb::Kind::i32, low, 9);
     std::fill(values.get(), values.get() + 400, low);
     std::size_t element = 0;
     for (int32_t x = -9; x <= 2; x++)
@@ -599,6 +599,9 @@ template <typename T> static void from_box_of(T low, T high)
 static void from_box()
 {
     from_box_of<bool>(false, true);
+    from_box_of<uint8_t>(0, UINT8_MAX);
+    from_box_of<int16_t>(3, INT16_MIN);
+    from_box_of<uint16_t>(UINT16_MAX, INT16_MAX);
     from_box_of<int32_t>(7, INT32_MIN);
     from_box_of<int64_t>(-1, INT64_MAX);
     vdb_grid grid = VDB_GRID_INIT;

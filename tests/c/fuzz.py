@@ -16,7 +16,7 @@ import random
 import sys
 import time
 from collections import Counter
-from ctypes import byref, c_int32, c_int64, c_long, c_size_t, c_uint8, c_uint32, c_uint64
+from ctypes import byref, c_int16, c_int32, c_int64, c_long, c_size_t, c_uint8, c_uint16, c_uint32, c_uint64
 from pathlib import Path
 
 import numpy as np
@@ -28,8 +28,6 @@ from cells import HIGH, LOW, lengths, volume  # noqa: E402
 from language import CALLS, KINDS, SPANS  # noqa: E402
 
 OK, EMPTY, MEMORY, ROOT_LIMIT, RANGE, OTHER_KIND = 0, 1, 2, 3, 4, 6
-#: The types of the elements of arrays, by the type of a grid.
-ELEMENTS = {"bool": c_uint8, "i32": c_int32, "i64": c_int64}
 ERRORS = {"root-limit": ROOT_LIMIT, "sum-range": 5, "kind": 6, "no-sum": 7}
 NO_GRID, NAME, NAME_TAKEN, GRID_LIMIT, META_LIMIT, NO_META, TEXT, BUFFER = 8, 9, 10, 11, 12, 13, 14, 15
 FAULTS = range(20, 36)
@@ -43,6 +41,11 @@ MOST_ACTIVE = 40_000
 VOXELS = range(-10, 16)
 #: The borders of blocks of each level, near 0 and at the ends of an axis.
 BORDERS = [-8192, -4096, -128, -9, -8, -1, 0, 1, 2, 7, 8, 9, 127, 128, 129, 4096, 8192, 12288, 16384, LOW + 1, LOW + 4096, HIGH - 4095, HIGH]
+#: The types of the elements of an array, each with its least and its greatest value.
+ELEMENTS = {
+    "bool": (c_uint8, 0, 255), "u8": (c_uint8, 0, 255), "i16": (c_int16, -(1 << 15), (1 << 15) - 1), "u16": (c_uint16, 0, (1 << 16) - 1),
+    "i32": (c_int32, *SPANS["i32"]), "i64": (c_int64, *SPANS["i64"]),
+}  # fmt: skip
 NAMES = [b"a", b"b_1", b"organ", b"abcdefghijklmnop"]
 WRONG_NAMES = [b"", b"A", b"1a", b"a-b", b"abcdefghijklmnopq", b"\xff"]
 TEXTS, WRONG_TEXTS = [b"mm", b"~" * 64, b"!"], [b"", b"a b", b"x" * 65, b"\x7f"]
@@ -410,7 +413,7 @@ class Session:
         kind = self.chance.choice(["bool", "i32"] if grid is None or self.rarely() else ["i64", grid.kind])
         call = "read_box" if kind == "i64" else f"read_box_{kind}"  # the call for grids of any type, or of this one
         if kind != "i64":
-            arguments[2] = values = (ELEMENTS[kind] * max(1, lengths[0]))()
+            arguments[2] = values = (ELEMENTS[kind][0] * max(1, lengths[0]))()
         step = self.on_readable(call, arguments, wrong, [values, states], results, at=at)
         if grid is not None and kind not in ("i64", grid.kind):
             step.refusals.add(OTHER_KIND)
@@ -418,7 +421,8 @@ class Session:
 
     def from_box(self):
         """A grid of the elements of a box of voxels, most of which are the background or another value."""
-        slot, kind = self.chance.randrange(GRIDS), self.chance.choice(["bool", "i32", "i32", "i64"])
+        slot, word = self.chance.randrange(GRIDS), self.chance.choice([*ELEMENTS, "i32"])
+        kind = word if word in KINDS else "i32"
         box = self.cube(range(8, 13) if self.is_near and self.rarely(0.3) else range(1, 8))
         background, limit = self.value(kind), self.chance.choice([0, 65537]) if self.rarely() else self.chance.choice([1, 2, 4096])
         made, sides = Grid(kind, background, limit), sides_of(box)
@@ -426,9 +430,9 @@ class Session:
         steps = self.steps(sides)
         places, elements = elements_of(box, steps)
         count = max(elements) + 1
-        spans = (0, 255) if kind == "bool" else SPANS[kind]
+        element, *spans = ELEMENTS[word]
         some = [*spans, 0, 1, 5] + [background] * 9 * made.has(background)
-        values = (ELEMENTS[kind] * count)(*self.chance.choices(some[self.chance.randrange(len(some)) :], k=count))
+        values = (element * count)(*self.chance.choices(some[self.chance.randrange(len(some)) :], k=count))
         length = self.chance.randrange(count) if self.rarely() else count
         wrong = wrong or not are_nested(sides, steps) or length < count or not made.has(background) or not 1 <= limit <= 65536
 
@@ -437,7 +441,7 @@ class Session:
             made.set({at: (number, number != background) for at, number in zip(places, numbers)})
             self.maps[slot] = made
 
-        name = f"vdb_grid_from_box_{kind}"
+        name = f"vdb_grid_from_box_{word}"
         strides = self.type("vdb_strides", *steps)
         arguments = [self.grids[slot], background, limit, argument, byref(strides), values, length]
         return Step(name, arguments, (), [RANGE] if wrong else [], commit, None, [slot])

@@ -28,7 +28,7 @@ FUZZ_CALLS = os.environ.get("FUZZ_CALLS", "100000")
 #: The calls that may allocate, each of whose allocations fails in turn, once for each shape of its arguments.
 ALLOCATING = {
     *(f"grid_{it}" for it in ("new copy set set_value set_active fill clip voxelise dilate erode unite subtract intersect maximum minimum sum replace"
-                              " write_many write_box from_box_bool from_box_i32 from_box_i64").split()),
+                              " write_many write_box from_box_bool from_box_u8 from_box_i16 from_box_u16 from_box_i32 from_box_i64").split()),
     *("view_new view_share view_copy scene_new scene_load scene_save scene_put scene_take scene_copy scene_meta_set").split(),
 }  # fmt: skip
 #: Those that allocate only if a box or another grid cuts a tile, which is seldom in random calls. The rows make each of these allocate.
@@ -236,7 +236,7 @@ class Headers(unittest.TestCase):
                 self.assertEqual(python_forms(declared[name]), [form_of(it) for it in arguments])
 
     def test_a_call_has_one_name_in_c_cpp_and_python(self):
-        calls = {re.sub(r"_(bool|i32|i64)\Z", "", it.removeprefix("vdb_grid_")) for it in Header().calls if it.startswith("vdb_grid_")}
+        calls = {re.sub(r"_(bool|u8|i16|u16|i32|i64)\Z", "", it.removeprefix("vdb_grid_")) for it in Header().calls if it.startswith("vdb_grid_")}
         hpp = re.search(r"^class Grid \{(.*?)^private:", (TOP / "include" / "vdb.hpp").read_text(encoding="utf-8"), re.M | re.S)[1]
         package = "".join((TOP / "python" / "vdb" / it).read_text(encoding="utf-8") for it in ("grid.py", "engine.py", "reading.py"))
         cpp, python = {*re.findall(r"^    (?:[\w:<>]+ )+\*?(\w+)\(", hpp, re.M)}, {*re.findall(r"^    def (\w+)\(", package, re.M)}
@@ -291,7 +291,7 @@ def form_of(kind):
 #: The names of types in python/vdb/library.py.
 PYTHON_TYPES = {
     "GRID": ["vdb_grid *"], "VIEW": ["vdb_view *"], "SCENE": ["vdb_scene *"], "BOX": ["vdb_box *"], "COORD": ["vdb_coord *"],
-    "I32": ["c_int *"], "I64": ["c_long *"], "U32": ["c_uint *"], "U64": ["c_ulong *"], "SIZE": ["c_ulong *"], "BYTES": ["char *"], "BUFFER": ["c_ubyte *"],
+    "I16": ["c_short *"], "U16": ["c_ushort *"], "I32": ["c_int *"], "I64": ["c_long *"], "U32": ["c_uint *"], "U64": ["c_ulong *"], "SIZE": ["c_ulong *"], "BYTES": ["char *"], "BUFFER": ["c_ubyte *"],
     "*PLACE": ["c_int"] * 3, "*NAMED": ["vdb_scene *", "char *", "c_ulong"], "POINTER(Count)": ["vdb_count *"],
     "*DENSE": ["vdb_box *", "vdb_strides *", "c_long *", "c_ulong", "c_ubyte *", "c_ulong"],
     "*DENSE_BOOL": ["vdb_box *", "vdb_strides *", "c_ubyte *", "c_ulong", "c_ubyte *", "c_ulong"],

@@ -1,6 +1,6 @@
 //! A grid made of the elements of a box of voxels, in one pass over them.
 ghost use Rattle.std.specs.Option.{option_map};
-ghost use Rattle.std.specs.Prelude.{◌≡◌, ◌⊎◌, ◌+◌, ◌*◌, ◌%◌, ◌<◌, ◌≤◌, ◌^◌, ℕ, Err, IfErr, IfOk, IfSome, IsTrue, OnOk, Option, Some, length, slice_index_or};
+ghost use Rattle.std.specs.Prelude.{◌≡◌, ◌⊎◌, ◌+◌, ◌*◌, ◌%◌, ◌<◌, ◌≤◌, ◌^◌, ℕ, Err, IfErr, IfOk, IfSome, IsTrue, OnOk, Option, Some, length, pos, slice_index_or};
 ghost use Rattle.vdb_coord.specs.Blocks.{block_number, offset, vdb};
 ghost use Rattle.vdb_coord.specs.Space.{everywhere, is_inside};
 ghost use Rattle.vdb_coord.specs.declared.Coord.{Coord};
@@ -94,6 +94,87 @@ pub extern "C" fn vdb_grid_from_box_i32(
     }
 }
 
+/// Creates a grid of numbers of 32 bits from the elements of a box, which are bytes. It replaces the handle's grid.
+#[unsafe(no_mangle)]
+pub extern "C" fn vdb_grid_from_box_u8(
+    alloc: Global,
+    handle: &mut GridHandle,
+    background: i64,
+    limit: u32,
+    corners: &Corners,
+    strides: &Strides,
+    values: &[u8],
+) -> i32
+    ensures { IsBuilt kinds.I32 (λ n. scalars.I32 (pos n)) background limit corners.now strides.now values.now handle.old.grid.held handle.new.grid.held result }
+{
+    match made::<i32, u8>(
+        alloc,
+        background,
+        limit,
+        corners,
+        strides,
+        values,
+        &mut handle.steps,
+    ) {
+        Ok(tree) => hold(alloc, handle, AnyGrid::I32(Grid::from_tree(tree))),
+        Err(code) => code,
+    }
+}
+
+/// Creates a grid of numbers of 32 bits from the elements of a box, which have 16 bits. It replaces the handle's grid.
+#[unsafe(no_mangle)]
+pub extern "C" fn vdb_grid_from_box_i16(
+    alloc: Global,
+    handle: &mut GridHandle,
+    background: i64,
+    limit: u32,
+    corners: &Corners,
+    strides: &Strides,
+    values: &[i16],
+) -> i32
+    ensures { IsBuilt kinds.I32 scalars.I32 background limit corners.now strides.now values.now handle.old.grid.held handle.new.grid.held result }
+{
+    match made::<i32, i16>(
+        alloc,
+        background,
+        limit,
+        corners,
+        strides,
+        values,
+        &mut handle.steps,
+    ) {
+        Ok(tree) => hold(alloc, handle, AnyGrid::I32(Grid::from_tree(tree))),
+        Err(code) => code,
+    }
+}
+
+/// Creates a grid of numbers of 32 bits from the elements of a box, which have 16 bits and no sign. It replaces the handle's grid.
+#[unsafe(no_mangle)]
+pub extern "C" fn vdb_grid_from_box_u16(
+    alloc: Global,
+    handle: &mut GridHandle,
+    background: i64,
+    limit: u32,
+    corners: &Corners,
+    strides: &Strides,
+    values: &[u16],
+) -> i32
+    ensures { IsBuilt kinds.I32 (λ n. scalars.I32 (pos n)) background limit corners.now strides.now values.now handle.old.grid.held handle.new.grid.held result }
+{
+    match made::<i32, u16>(
+        alloc,
+        background,
+        limit,
+        corners,
+        strides,
+        values,
+        &mut handle.steps,
+    ) {
+        Ok(tree) => hold(alloc, handle, AnyGrid::I32(Grid::from_tree(tree))),
+        Err(code) => code,
+    }
+}
+
 /// Creates a grid of numbers of 64 bits from the elements of a box. It replaces the handle's grid.
 #[unsafe(no_mangle)]
 pub extern "C" fn vdb_grid_from_box_i64(
@@ -146,6 +227,33 @@ impl Given<i32> for i32 {
     #[inline(always)]
     fn value(self) -> i32 {
         self
+    }
+}
+
+impl Given<i32> for u8 {
+    ghost value = { λ n. pos n };
+
+    #[inline(always)]
+    fn value(self) -> i32 {
+        self as i32
+    }
+}
+
+impl Given<i32> for i16 {
+    ghost value = { λ n. n };
+
+    #[inline(always)]
+    fn value(self) -> i32 {
+        self as i32
+    }
+}
+
+impl Given<i32> for u16 {
+    ghost value = { λ n. pos n };
+
+    #[inline(always)]
+    fn value(self) -> i32 {
+        self as i32
     }
 }
 
