@@ -191,7 +191,7 @@ def read_part(
 
 def read_array(held: Held, kind: "Kind | None", low: Sequence[int], array: np.ndarray) -> None:
     """Writes the values of a box of voxels to a dense array or, without the type of the grid, their states: in place if the library can."""
-    taken, nothing = elements_of(array), (None, 0)
+    taken, nothing = elements_of(array) if array.flags.writeable else None, (None, 0)
     call = READS.get((kind.word, array.dtype.str[1:])) if kind else "read_box"
     if taken and kind and call:
         held.call(call, whole_box(low, array.shape), byref(taken[0]), *taken[1:], *nothing)

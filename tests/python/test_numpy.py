@@ -110,9 +110,12 @@ class Dense(unittest.TestCase):
                 made = np.empty(SHAPE, form)
                 self.assertIs(grid.to_array(box, fill=3, out=made, max_bytes=made.size)[0], made)
                 np.testing.assert_array_equal(made, np.where(active, values, 3))
-            for wrong, error in ((made[1:], ValueError), (made.tolist(), TypeError), ((None, made), TypeError)):
+            fixed = np.zeros(SHAPE, np.int32)
+            fixed.flags.writeable = False
+            for wrong, error in ((made[1:], ValueError), (made.tolist(), TypeError), ((None, made), TypeError), (fixed, ValueError)):
                 with self.assertRaises(error):
                     grid.to_array(box, out=wrong)
+            self.assertFalse(fixed.any())
 
     def test_orders_and_strides(self):
         """Arrays of each dtype in every order of the axes, backwards, with gaps, with one voxel along axes, with voxels that share an
