@@ -9,9 +9,11 @@ from pathlib import Path
 HEADER = Path(__file__).resolve().parents[2] / "include" / "vdb.h"
 
 SIMPLE = {
+    "int16_t": ctypes.c_int16,
     "int32_t": ctypes.c_int32,
     "int64_t": ctypes.c_int64,
     "uint8_t": ctypes.c_uint8,
+    "uint16_t": ctypes.c_uint16,
     "uint32_t": ctypes.c_uint32,
     "uint64_t": ctypes.c_uint64,
     "size_t": ctypes.c_size_t,
