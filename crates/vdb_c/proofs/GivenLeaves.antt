@@ -1,5 +1,5 @@
 -- Leaves that a call gives cells row by row.
-use Rattle.vdb_c.proofs.Common.{◌≡◌, ◌≢◌, ◌⊎◌, inl, inr, refl, sym, ap, ◌∙◌, subst, ℕ, ℤ, ◌+◌, ◌*◌, ◌<◌, ◌≤◌, ◌+ℤ◌, ◌≤ℤ◌, pos, arith, ints, Bool, true, false, not, IsTrue, List, length, get_or, Option, Some, slice_get, int_gap, int_le, block_number, offset, vdb, Box, coord, is_inside, Coord, inside_from, inside_parts, cell_in, Cell, off, IsInOneLeaf, place, Strides}
+use Rattle.vdb_c.proofs.Common.{◌≡◌, ◌≢◌, ◌⊎◌, inl, inr, refl, sym, ap, ◌∙◌, subst, ℕ, ℤ, ◌+◌, ◌*◌, ◌<◌, ◌≤◌, ◌+ℤ◌, ◌≤ℤ◌, pos, arith, ints, Bool, true, false, not, IsTrue, List, length, get_or, Option, Some, slice_get, int_gap, int_le, offset, vdb, Box, coord, is_inside, Coord, inside_from, inside_parts, cell_in, Cell, off, IsInOneLeaf, place, Strides}
 use Rattle.std.proofs.Common.{◌/◌, ◌%◌, ◌*ℤ◌}
 use Rattle.std.proofs.Math.Nat.{add-mul, div-one}
 use Rattle.std.specs.Option.{option_map_or}

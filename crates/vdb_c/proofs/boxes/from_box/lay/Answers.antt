@@ -1,4 +1,4 @@
-use Rattle.vdb_c.proofs.Common.{◌≡◌, ◌+◌, ◌^◌, ℕ, IsTrue, arith, both, is_inside, min_inside, subst, Coord, off}
+use Rattle.vdb_c.proofs.Common.{◌≡◌, ◌+◌, ◌^◌, IsTrue, arith, both, is_inside, min_inside, subst, Coord, off}
 use Rattle.vdb_c.specs.FromBox.{cell_at, cells_of}
 use Rattle.vdb_c.proofs.GivenLeaves.{IsPartAt, have_next, have_none, part_at, part_entry, part_given, part_row, part_reach, plane_apart, plane_below}
 use Rattle.vdb_c.proofs.boxes.from_box.lay.Goals as goal

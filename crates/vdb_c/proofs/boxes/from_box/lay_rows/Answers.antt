@@ -1,5 +1,4 @@
-use Rattle.vdb_c.proofs.Common.{◌≡◌, ◌+◌, ◌*◌, ◌<◌, ◌≤◌, ℕ, arith, subst}
-use Rattle.std.proofs.Common.{◌%◌}
+use Rattle.vdb_c.proofs.Common.{◌≡◌, ◌+◌, ◌*◌, ◌<◌, ℕ, arith, subst}
 use Rattle.vdb_c.specs.FromBox.{cell_at, cells_of}
 use Rattle.vdb_c.proofs.GivenLeaves.{HaveCells, have_next, have_none, row_apart, row_below}
 use Rattle.vdb_c.proofs.boxes.from_box.lay_rows.Goals as goal
