@@ -106,7 +106,7 @@ def shape_of(part: Brick) -> "tuple[int, int, int]":
 class Room:
     """Arrays of a dtype, one after another in the same memory, since new memory takes longer than to fill it."""
 
-    def __init__(self, dtype: type) -> None:
+    def __init__(self, dtype: "type | np.dtype") -> None:
         self.memory: np.ndarray = np.empty(0, dtype)
 
     def array(self, shape: "tuple[int, ...]") -> np.ndarray:
@@ -117,7 +117,7 @@ class Room:
         return self.memory[:size].reshape(shape)
 
 
-def corner_of(low: Sequence[int], part: Brick) -> "list[int]":
+def corner_of(low: Sequence[int], part: Sequence[slice]) -> "list[int]":
     """Returns the coordinate at which a part of an array begins that begins at a coordinate."""
     return [at + it.start for at, it in zip(low, part)]
 
@@ -198,7 +198,7 @@ def read_array(held: Held, kind: "Kind | None", low: Sequence[int], array: np.nd
     elif taken and array.dtype == np.bool_ and not kind:
         held.call("read_box", whole_box(low, array.shape), byref(taken[0]), *nothing, *taken[1:])
     else:
-        room = Room(kind.dtype if kind else np.bool_)
+        room = Room(kind.dtype if kind else np.dtype(np.bool_))
         for part in bricks(low, array.shape):
             made = room.array(shape_of(part))
             read_array(held, kind, corner_of(low, part), made)
