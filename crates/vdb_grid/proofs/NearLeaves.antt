@@ -1,28 +1,20 @@
 -- Paths within one leaf extent.
-use Rattle.std.proofs.Common.{◌≡◌, ℕ, ◌+◌, ◌-◌, ◌≤◌, Bool, true, false, refl, sym, ap, subst, ◌∙◌, arith, inl, inr, List, rules}
-use Rattle.std.specs.Prelude.{Option, Some, None, IfSome, IsSome, IsTrue, is_some}
+use Rattle.std.proofs.Common.{◌≡◌, ℕ, ◌+◌, ◌-◌, ◌≤◌, true, false, refl, sym, ap, subst, ◌∙◌, arith, inl, inr, List}
+use Rattle.std.specs.Prelude.{Option, Some, None, IfSome, IsTrue, is_some}
 use Rattle.vdb_coord.specs.Blocks.{block_number, vdb}
 use Rattle.vdb_coord.specs.Space.{coord_eq}
 use Rattle.vdb_coord.specs.declared.Coord.{Coord}
 use Rattle.vdb_coord.specs.declared.Level.TheVariants.{Leaf, Lower, Upper}
 use Rattle.vdb_coord.proofs.Members.{coord_equiv, coord_exact}
 use Rattle.vdb_coord.proofs.Nesting.{lower_from_leaf, upper_from_lower}
-use Rattle.vdb_coord.specs.declared.Level.{Level}
-use Rattle.vdb_node.specs.Leaf.{Leaf as LeafOf}
 use Rattle.vdb_node.specs.declared.Entry.{Entry}
 use Rattle.vdb_node.specs.declared.Entry.TheVariants.{Child, Tile}
-use Rattle.vdb_pool.specs.Contents.{Contents, node_at, with_node}
 use Rattle.vdb_pool.specs.declared.place.Place.{Place}
-use Rattle.vdb_value.specs.declared.Cell.{Cell}
 use Rattle.vdb_tree.specs.declared.path.PathOf.TheVariants.{Empty, ToUpper, ToLower, ToLeaf}
-use Rattle.vdb_tree.specs.Layout.{Layout, entry_over}
-use Rattle.vdb_tree.specs.Leaves.{IsVoxelWritten}
-use Rattle.vdb_tree.specs.Nodes.{KeepsElsewhere}
-use Rattle.vdb_tree.specs.Layout.{lower_entry, root_entry, upper_entry}
+use Rattle.vdb_tree.specs.Layout.{Layout, lower_entry, root_entry, upper_entry}
 use Rattle.vdb_tree.specs.Paths.{IsWhole, Lives, TreePath, common, common_lower, common_upper, depth, down_count, ends_in_leaf, in_leaf, is_child, one_if_child}
 use Rattle.vdb_tree.proofs.Descents.{lower_by_block, root_by_block, upper_by_block}
 use Rattle.vdb_tree.proofs.Levels.{bool_cases}
-use Rattle.vdb_tree.proofs.Needed.{some_or_none}
 use Rattle.vdb_tree.proofs.NextChild.{leaf_below_lower, leaf_below_upper}
 use Rattle.vdb_tree.proofs.Paths.{common_lives, no_leaf_lower, no_leaf_upper}
 use Rattle.vdb_grid.specs.Grid.{ArePathsWhole, IsInLastLeaf, has_leaf, last, path}
@@ -169,34 +161,3 @@ leaf_down t coords paths k p (Some q) h s e = let below = leaf_visit t q p (path
 pub near_down : {V : Type 0} (t : Layout V) (coords : List (Option Coord)) (paths : List (TreePath V)) (k : ℕ) (p : Coord) (old new : ℕ)
     → ArePathsWhole t coords paths → has_leaf (last coords k) (path paths k) p ≡ true → new ≤ old + 1 → new ≤ old + down_count vdb t p
 near_down t coords paths k p old new h e few = let down = leaf_down t coords paths k p (last coords k) h refl e in omega (arith, few, down)
-
--- another leaf in a slot leaves every entry as it was
-leaf_entries : {V : Type 0} (t : Layout V) (leaves : Contents (LeafOf V)) (level : Level) (q : Coord) → entry_over vdb level (record t { leaves = leaves }) q ≡ entry_over vdb level t q
-leaf_entries t leaves Upper q = refl
-leaf_entries t leaves Lower q = refl
-leaf_entries t leaves Leaf q = refl
-
-no_node : {N : Type 0} (o : Option N) → o ≡ None → IsSome o → ⊥
-no_node None e h = search rules
-no_node (Some n) e h = cc
-
--- so does a voxel written in the leaf that ends a live path
-written_elsewhere : {V : Type 0} (old new : Layout V) (p : Coord) (cell : Cell V) (path : TreePath V) → ends_in_leaf path ≡ true → Lives vdb old path p → IsVoxelWritten vdb old new p cell
-    → KeepsElsewhere vdb old new p
-written_elsewhere old new p cell Empty e h w = absurd (apart (sym e))
-written_elsewhere old new p cell (ToUpper u) e h w = absurd (apart (sym e))
-written_elsewhere old new p cell (ToLower u l) e h w = absurd (apart (sym e))
-written_elsewhere {V = V} old new p cell (ToLeaf u l f) e h w =
-    elim (some_or_none (node_at old.leaves f.slot)) [
-      | inl held ↦
-          let m = w f.slot held.0 h.2.child held.1 in
-          λ level q d. subst (λ (t : Layout V). entry_over vdb level t q ≡ entry_over vdb level old q) (sym m.1) (leaf_entries old (with_node old.leaves f.slot m.0) level q)
-      | inr none ↦ absurd (no_node (node_at old.leaves f.slot) none h.2.live.0)
-    ]
-
--- and one written, or not, in the leaf that ends a path from q
-pub near_elsewhere : {V : Type 0} (old new : Layout V) (cached : TreePath V) (q p : Coord) (cell : Cell V) (written : Bool)
-    → Lives vdb old cached q → written ≡ ends_in_leaf (common vdb q p cached) → (written ≡ true → IsVoxelWritten vdb old new p cell) → (written ≡ false → new ≡ old)
-    → KeepsElsewhere vdb old new p
-near_elsewhere old new cached q p cell true h e w same = written_elsewhere old new p cell (common vdb q p cached) (sym e) (common_lives vdb old q p cached h) (w refl)
-near_elsewhere {V = V} old new cached q p cell false h e w same = λ level r d. ap (λ (t : Layout V). entry_over vdb level t r) (same refl)

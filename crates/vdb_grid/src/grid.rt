@@ -67,8 +67,20 @@ impl<V: Stored<512> + Stored<64> + Stored<8>, const K: usize> Grid<V, K> {
         Grid::from_tree(Tree::new(alloc, background, limit))
     }
 
-    /// Returns the grid of a tree, with accessors that were given no coordinate and cache no node. It takes no memory.
+    /// Returns the grid of a tree, whose limit is 1 to 65,536, with accessors that were given no coordinate and cache no
+    /// node. It takes no memory.
     pub fn from_tree(tree: Tree<V>) -> Self
+        requires some { 1 ≤ tree.limit }
+        requires few { tree.limit ≤ 65536 }
+        ensures tree { result.tree ≡ tree }
+        ensures last { (k : ℕ) → last result.coords k ≡ None }
+        ensures empty { (k : ℕ) → path result.paths k ≡ Empty }
+    {
+        Grid::with_unused_accessors(tree)
+    }
+
+    /// The same for a tree of any limit.
+    fn with_unused_accessors(tree: Tree<V>) -> Self
         ensures tree { result.tree ≡ tree }
         ensures last { (k : ℕ) → last result.coords k ≡ None }
         ensures empty { (k : ℕ) → path result.paths k ≡ Empty }
@@ -387,6 +399,7 @@ impl<V: Stored<512> + Stored<64> + Stored<8>, const K: usize> Grid<V, K> {
         ensures limit { self.new.tree.limit ≡ self.old.tree.limit }
         ensures alone { IsTrue result → IsVoxelWritten vdb self.old.tree self.new.tree p (written change ((field_of vdb self.old.tree).cell p)) }
         ensures whole { IsTrue result → IsWhole vdb self.new.tree (path self.new.paths k) p }
+        ensures elsewhere { KeepsElsewhere vdb self.old.tree self.new.tree p }
         ensures others { (j : ℕ) → j ≢ k → path self.new.paths j ≡ path self.old.paths j }
         ensures last { IsTrue result → self.new.coords ≡ slice_set self.old.coords k (Some p) }
         ensures untouched { result ≡ false → self.new ≡ self.old }
@@ -416,7 +429,7 @@ impl<V: Stored<512> + Stored<64> + Stored<8>, const K: usize> Grid<V, K> {
         ensures memory { IfErr result (λ refusal. refusal ≡ Memory) }
     {
         let tree = self.tree.try_copy()?;
-        Ok(Grid::from_tree(tree))
+        Ok(Grid::with_unused_accessors(tree))
     }
 }
 

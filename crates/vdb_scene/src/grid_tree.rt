@@ -112,6 +112,7 @@ pub fn write_in_leaf<V: GridValue, const IN_LOWER: bool>(
     // Nothing else of the tree changes.
     ensures alone { IsTrue result → (w : Write V) × (as_write_of V.as_scalar w ≡ change)
         × IsVoxelWritten vdb grid.old.tree grid.new.tree at (written w ((field_of vdb grid.old.tree).cell at)) }
+    ensures elsewhere { KeepsElsewhere vdb grid.old.tree grid.new.tree at }
     ensures untouched { result ≡ false → grid.new ≡ grid.old }
     ensures steps { steps.new ≤ steps.old + ((if IN_LOWER && has_lower (last grid.old.coords k) (path grid.old.paths k) at then 1 else 0) + (if result then 1 else 0)) }
 {
@@ -138,6 +139,7 @@ pub fn write_nearby<V: GridValue>(
     ensures limit { grid.new.tree.limit ≡ grid.old.tree.limit }
     ensures last { grid.new.coords ≡ grid.old.coords }
     ensures paths { grid.new.paths ≡ grid.old.paths }
+    ensures elsewhere { KeepsElsewhere vdb grid.old.tree grid.new.tree at }
     ensures untouched { result ≡ false → grid.new ≡ grid.old }
     ensures steps { steps.new ≤ steps.old + (if result then 1 else 0) }
 {

@@ -8,6 +8,7 @@ ghost use Rattle.vdb_coord.specs.declared.Coord.{Coord};
 ghost use Rattle.vdb_tree.specs.Field.{write, written};
 ghost use Rattle.vdb_tree.specs.Layout.{bits_of, cell_at, field_of, lower_entry, root_entry, upper_entry};
 ghost use Rattle.vdb_tree.specs.Leaves.{IsVoxelWritten};
+ghost use Rattle.vdb_tree.specs.Nodes.{KeepsElsewhere};
 ghost use Rattle.vdb_tree.specs.Paths.{common, common_lower, common_upper, depth, down_count, ends_in_leaf, ends_in_lower, in_leaf, IsChildAt, IsWhole, Lives, TreePath};
 
 use crate::{PathOf, TreeOf, Write};
@@ -75,6 +76,7 @@ impl<
         ensures answer { result ≡ ends_in_leaf (common (bits_of U L F) q p path.now) }
         ensures field { IsTrue result → field_of (bits_of U L F) self.new ≡ write p change (field_of (bits_of U L F) self.old) }
         ensures alone { IsTrue result → IsVoxelWritten (bits_of U L F) self.old self.new p (written change ((field_of (bits_of U L F) self.old).cell p)) }
+        ensures elsewhere { KeepsElsewhere (bits_of U L F) self.old self.new p }
         ensures untouched { result ≡ false → self.new ≡ self.old }
         ensures limit { self.new.limit ≡ self.old.limit }
         ensures paths { (other : TreePath V) (r : Coord) → IsWhole (bits_of U L F) self.old other r → IsWhole (bits_of U L F) self.new other r }
@@ -124,6 +126,7 @@ impl<
         ensures answer { result ≡ (ends_in_lower (common (bits_of U L F) q p path.old) && in_leaf (bits_of U L F) self.old p) }
         ensures field { IsTrue result → field_of (bits_of U L F) self.new ≡ write p change (field_of (bits_of U L F) self.old) }
         ensures alone { IsTrue result → IsVoxelWritten (bits_of U L F) self.old self.new p (written change ((field_of (bits_of U L F) self.old).cell p)) }
+        ensures elsewhere { KeepsElsewhere (bits_of U L F) self.old self.new p }
         ensures whole { IsTrue result → IsWhole (bits_of U L F) self.new path.new p }
         ensures untouched { result ≡ false → (self.new ≡ self.old) × (path.new ≡ path.old) }
         ensures limit { self.new.limit ≡ self.old.limit }

@@ -59,3 +59,21 @@ returns-in_ok-numbers-in-1-clause-moves g c = moves_ok (moves_then c.in_ok-kind.
 
 pub returns-in_ok-longs-in-2-clause-moves : goal.returns-in_ok-longs-in-2-clause-moves
 returns-in_ok-longs-in-2-clause-moves g c = moves_ok (moves_then c.in_ok-kind.ensures.moves c.in_ok-longs-in-2.ensures.moves)
+
+pub from_tree-requires : goal.from_tree-requires
+from_tree-requires g c = record {
+  some = c.in_ok-truths-in-0.ensures.reads.0.head.positive;
+  few = c.in_ok-truths-in-0.ensures.reads.0.head.limited;
+}
+
+pub from_tree-in-1-requires : goal.from_tree-in-1-requires
+from_tree-in-1-requires g c = record {
+  some = c.in_ok-numbers-in-1.ensures.reads.0.head.positive;
+  few = c.in_ok-numbers-in-1.ensures.reads.0.head.limited;
+}
+
+pub from_tree-in-2-requires : goal.from_tree-in-2-requires
+from_tree-in-2-requires g c = record {
+  some = c.in_ok-longs-in-2.ensures.reads.0.head.positive;
+  few = c.in_ok-longs-in-2.ensures.reads.0.head.limited;
+}

@@ -1,11 +1,8 @@
 use Rattle.std.proofs.Common.{Option, Some, subst, sym, ◌∙◌}
-use Rattle.vdb_coord.specs.Blocks.{vdb}
 use Rattle.vdb_coord.specs.declared.Coord.{Coord}
-use Rattle.vdb_tree.specs.Field.{written}
-use Rattle.vdb_tree.specs.Layout.{field_of}
 use Rattle.vdb_grid.specs.Grid.{IsInLastLeaf}
 use Rattle.vdb_grid.proofs.EachAccessor.{near_kept}
-use Rattle.vdb_grid.proofs.NearLeaves.{last_leaf_found, near_elsewhere, whole_here}
+use Rattle.vdb_grid.proofs.NearLeaves.{last_leaf_found, whole_here}
 use Rattle.vdb_grid.proofs.grid.Grid.write_in_leaf.Goals as goal
 
 pub invariant_of-self : goal.invariant_of-self
@@ -27,8 +24,4 @@ returns-clause-whole g c = λ t.
     c.write_near-written.ensures.paths _ _ (whole_here _ c.in-Some.q c.args.p _ (sym c.write_near-written.ensures.answer ∙ t) (c.self.invariant.0 c.args.k c.in-Some.q c.in-Some.is))
 
 pub returns-clause-elsewhere : goal.returns-clause-elsewhere
-returns-clause-elsewhere g c =
-    let cell = written c.args.change ((field_of vdb c.self.inside.tree).cell c.args.p) in
-    rw (← c.self.view_is)
-    (near_elsewhere c.self.inside.tree c.write_near-written.new.self _ c.in-Some.q c.args.p cell c.write_near-written.result
-    (c.self.invariant.0 c.args.k c.in-Some.q c.in-Some.is).lives c.write_near-written.ensures.answer c.write_near-written.ensures.alone c.write_near-written.ensures.untouched)
+returns-clause-elsewhere g c = rw (← c.self.view_is) c.write_near-written.ensures.elsewhere

@@ -20,3 +20,6 @@ pub returns-then-written-clause-alone : goal.returns-then-written-clause-alone
 returns-then-written-clause-alone g c = λ _.
     subst (λ (grid : GridOf g.row.V.Denot). IsVoxelWritten vdb grid.tree c.write_in_lower-written.new.self c.args.p (written c.args.change ((field_of vdb grid.tree).cell c.args.p)))
     c.self.view_is (c.write_in_lower-written.ensures.alone c.if-written.true)
+
+pub returns-then-written-clause-elsewhere : goal.returns-then-written-clause-elsewhere
+returns-then-written-clause-elsewhere g c = rw (← c.self.view_is) c.write_in_lower-written.ensures.elsewhere

@@ -20,3 +20,6 @@ returns-in-Child-clause-whole g c = λ _.
     let above = rw c.in-ToLower.is at c.shared.ensures.lives in
     let was = leaf_whole {V = g.row.V.Denot} (bits_of g.row.U g.row.L g.row.F) c.args.self.now c.args.q c.args.p c.in-ToLower.upper c.in-ToLower.lower c.leaf_place-leaf.result (above.0, above.1, c.leaf_place-leaf.ensures) in
     c.write_voxel_at.ensures.paths _ _ was
+
+pub returns-in-Child-clause-elsewhere : goal.returns-in-Child-clause-elsewhere
+returns-in-Child-clause-elsewhere g c = λ level q _. c.write_voxel_at.ensures.same q level

@@ -16,3 +16,6 @@ returns-in-Some-clause-alone g c written_here =
 
 pub returns-in-Some-clause-limit : goal.returns-in-Some-clause-limit
 returns-in-Some-clause-limit g c = c.write_voxel_at.ensures.changes.head.limit
+
+pub returns-in-Some-clause-elsewhere : goal.returns-in-Some-clause-elsewhere
+returns-in-Some-clause-elsewhere g c = λ level q _. c.write_voxel_at.ensures.same q level

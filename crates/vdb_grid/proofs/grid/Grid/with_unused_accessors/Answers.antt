@@ -1,5 +1,5 @@
 use Rattle.vdb_grid.proofs.EachAccessor.{near_nothing, nothing_last, nothing_path, nothing_whole}
-use Rattle.vdb_grid.proofs.grid.Grid.from_tree.Goals as goal
+use Rattle.vdb_grid.proofs.grid.Grid.with_unused_accessors.Goals as goal
 
 pub invariant_of-result : goal.invariant_of-result
 invariant_of-result g c = (nothing_whole _ _ _, λ k _. nothing_path g.row.K k, near_nothing _ _)
