@@ -1,5 +1,5 @@
 -- What the calls do, by the code that they return: one definition for each shape of call.
-use Rattle.std.specs.Prelude.{◌≡◌, ◌⊎◌, ℕ, ℤ, ⊤, Bool, false, if◌then◌else◌, nat_le, ◌&&◌, Option, Some, None, Result, IfErr, IsOk, IsTrue, OnOk}
+use Rattle.std.specs.Prelude.{◌≡◌, ◌⊎◌, ℕ, ℤ, ⊤, Bool, false, if◌then◌else◌, nat_le, ◌&&◌, Option, Some, None, Result, Err, IfErr, IsOk, IsTrue, OnOk}
 use Rattle.std.specs.Option.{option_and_then}
 use Rattle.vdb_coord.specs.Blocks.{vdb}
 use Rattle.vdb_coord.specs.Space.{Box}
@@ -10,7 +10,7 @@ use Rattle.vdb_tree.specs.declared.Write.{Write}
 use Rattle.vdb_tree.specs.declared.Write.TheVariants as writes
 use Rattle.vdb_tree.specs.declared.refusal.TreeRefusal.{TreeRefusal}
 use Rattle.vdb_tree.specs.declared.refusal.TreeRefusal.TheVariants as trees
-use Rattle.vdb_scene.specs.Grids.{HasSameTree, IsCopyOf, IsVoxelised, grid_field, grid_root_limit}
+use Rattle.vdb_scene.specs.Grids.{HasRootCapacity, HasSameTree, IsCopyOf, IsPruned, IsVoxelised, KeepsOutside, grid_field, grid_root_limit}
 use Rattle.vdb_scene.specs.Scalars.{is_of, kind_of, scalar_eq}
 use Rattle.vdb_scene.specs.Step.{passes, write_takes_memory}
 use Rattle.vdb_scene.specs.TwoGrids.{IsMade, StaysBut}
@@ -109,18 +109,27 @@ IsWrittenBy limit at (Some w) old new result = IsWrittenIn limit at w old new re
 abbrev pub IsWritten : Coord → Write Scalar → AnyGrid → AnyGrid → Result (Unit {0}) TreeRefusal → Type 0
 IsWritten at w old new result = IsWrittenIn (grid_root_limit old) at w (grid_field old) (grid_field new) result
 
+-- no tile and no node that doesn't hold the voxel changes, unless the root table is full
+abbrev pub WritesOnly : Coord → AnyGrid → AnyGrid → Type 0
+WritesOnly at old new = HasRootCapacity old at → KeepsOutside old new at
+
 -- a write to a voxel, through an accessor or none, both of which are tested
 abbrev pub Writes : Option (Option ℕ) → Coord → Option (Write Scalar) → AnyGrid → AnyGrid → ℤ → Type 0
 Writes accessor at change old new code =
-    OnValid change old new code ⊤ (λ w. OnValid accessor old new code ⊤ (λ _. Changes old new code (IsWritten at w old new)))
+    OnValid change old new code ⊤ (λ w. OnValid accessor old new code ⊤ (λ _. Changes old new code (IsWritten at w old new) × WritesOnly at old new))
 
 -- a number of iterations, if it is 1 to 16
 abbrev pub iterations_of : ℕ → Option ℕ
 iterations_of n = if nat_le 1 n && nat_le n 16 then Some n else None
 
--- no cell changed, and each active voxel of the box lies in a leaf if the call succeeded, which only an allocation prevents
+-- an error of memory leaves a pruned grid
+abbrev pub PrunesWithoutMemory : AnyGrid → Result (Unit {0}) TreeRefusal → Type 0
+PrunesWithoutMemory new result = result ≡ Err trees.Memory → IsPruned new
+
+-- No cell changed, and each active voxel of the box lies in a leaf if the call succeeded, which only an allocation prevents. The grid is pruned
+-- then.
 abbrev pub IsVoxelisedOr : AnyGrid → AnyGrid → Box → Result (Unit {0}) TreeRefusal → Type 0
-IsVoxelisedOr old new box result = (grid_field new ≡ grid_field old) × OnOk result (IsVoxelised new box) × IfErr result (λ r. r ≡ trees.Memory)
+IsVoxelisedOr old new box result = (grid_field new ≡ grid_field old) × OnOk result (IsVoxelised new box) × IfErr result (λ r. r ≡ trees.Memory) × IfErr result (λ _. IsPruned new)
 
 -- the same for a call with the grid of another handle
 abbrev pub OnOther : Option AnyGrid → AnyGrid → AnyGrid → ℤ → (AnyGrid → Type 0) → Type 0

@@ -1,6 +1,6 @@
 //! The voxels of a box, one after another.
 ghost use Rattle.std.specs.Int.{int_gap};
-ghost use Rattle.std.specs.Prelude.{◌≡◌, ◌+◌, ◌<◌, ◌^◌, IfSome, IsTrue};
+ghost use Rattle.std.specs.Prelude.{◌≡◌, ◌+◌, ◌<◌, ◌^◌, ◌&&◌, IfSome, IsTrue, nat_le};
 ghost use Rattle.vdb_coord.specs.Space.{coord, is_inside};
 ghost use Rattle.vdb_coord.specs.Walk.{coordinates_after};
 ghost use Rattle.vdb_c.specs.BoxVoxels.{IsNextVoxel};
@@ -64,7 +64,9 @@ pub(crate) fn row_size(bounds: Bounds, p: Coord) -> usize
 }
 
 /// Returns whether a box has as many voxels along each axis as a leaf, or more.
-pub(crate) fn is_wide(bounds: Bounds) -> bool {
+pub(crate) fn is_wide(bounds: Bounds) -> bool
+    ensures { result ≡ (nat_le 7 (int_gap bounds.min.x bounds.max.x) && (nat_le 7 (int_gap bounds.min.y bounds.max.y) && nat_le 7 (int_gap bounds.min.z bounds.max.z))) }
+{
     let min = bounds.min();
     let (dx, dy, dz) = gaps(min, bounds.max());
     dx >= 7 && (dy >= 7 && dz >= 7)

@@ -1,6 +1,8 @@
 //! Calls that move a grid into a scene and out of it.
-ghost use Rattle.std.specs.Prelude.{◌≡◌, length};
-ghost use Rattle.vdb_scene.specs.Grids.{scene_of};
+ghost use Rattle.std.specs.Prelude.{◌≡◌, false, length};
+ghost use Rattle.vdb_tree.specs.Field.{new};
+ghost use Rattle.vdb_scene.specs.Grids.{grid_field, scene_of};
+ghost use Rattle.vdb_scene.specs.declared.scalar.Scalar.TheVariants.{Bool};
 ghost use Rattle.vdb_c.specs.Calls.{OnHeld};
 ghost use Rattle.vdb_c.specs.Codes.{done};
 ghost use Rattle.vdb_c.specs.Scenes.{IsMovedIn, IsSwapped, MovesOut, Tells};
@@ -135,7 +137,9 @@ fn swap(alloc: Global, scene: &mut Scene, name: &[u8], handle: &mut GridHandle) 
     if found { DONE } else { NO_GRID }
 }
 
-/// Returns a grid that takes the place of another for a while.
-fn no_grid(alloc: Global) -> AnyGrid {
+/// Returns a grid that was never written, which takes the place of another for a while.
+fn no_grid(alloc: Global) -> AnyGrid
+    ensures { grid_field result ≡ new (Bool false) }
+{
     AnyGrid::new(alloc, Scalar::Bool(false), 1)
 }

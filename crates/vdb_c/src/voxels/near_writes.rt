@@ -4,6 +4,7 @@ ghost use Rattle.std.specs.Option.{option_map};
 ghost use Rattle.vdb_coord.specs.Blocks.{vdb};
 ghost use Rattle.vdb_tree.specs.Field.{as_field_of};
 ghost use Rattle.vdb_tree.specs.Layout.{field_of};
+ghost use Rattle.vdb_tree.specs.Nodes.{KeepsElsewhere};
 ghost use Rattle.vdb_c.specs.Calls.{IsWriteFor, IsWrittenBy, Writes, grid_kind, write_of};
 ghost use Rattle.vdb_c.specs.Codes.{done};
 ghost use Rattle.vdb_c.specs.Values.{accessor_of, value_of};
@@ -64,6 +65,7 @@ fn write_in_leaf_if<V: GridValue, const IN_LOWER: bool>(
     requires fits { IsWriteFor V.KIND change }
     ensures written { IsTrue result → IsWrittenBy grid.old.tree.limit at change (as_field_of V.as_scalar (field_of vdb grid.old.tree)) (as_field_of V.as_scalar (field_of vdb grid.new.tree)) (Ok tt) }
     ensures limit { grid.new.tree.limit ≡ grid.old.tree.limit }
+    ensures elsewhere { IsTrue result → KeepsElsewhere vdb grid.old.tree grid.new.tree at }
     ensures untouched { result ≡ false → grid.new ≡ grid.old }
 {
     let Some(change) = change else {

@@ -13,7 +13,7 @@ returns-in-Bool-clause-written g c = λ t.
     let accessor = (rw (to_z-of_z w32 c.args.number number) at c.in-Some.ensures) in
     let done =
     subst (λ (o : Option (Write Scalar)). IsWrittenBy c.in-Bool.held.tree.limit c.args.at o (grid_field old) (grid_field new) (Ok tt)) write (c.write_in_leaf_if.ensures.written t) in
-    rw c.in-Bool.is (written_near _ c.args.at _ old new (subst IsSome accessor refl) c.write_in_leaf_if.ensures.limit done)
+    rw c.in-Bool.is (written_near _ c.args.at _ old new (subst IsSome accessor refl) c.write_in_leaf_if.ensures.limit (c.write_in_leaf_if.ensures.elsewhere t) done)
 
 pub returns-in-I32-clause-written : goal.returns-in-I32-clause-written
 returns-in-I32-clause-written g c = λ t.
@@ -25,7 +25,7 @@ returns-in-I32-clause-written g c = λ t.
     let accessor = (rw (to_z-of_z w32 c.args.number number) at c.in-Some.ensures) in
     let done =
     subst (λ (o : Option (Write Scalar)). IsWrittenBy c.in-I32.held.tree.limit c.args.at o (grid_field old) (grid_field new) (Ok tt)) write (c.write_in_leaf_if-in-I32.ensures.written t) in
-    rw c.in-I32.is (written_near _ c.args.at _ old new (subst IsSome accessor refl) c.write_in_leaf_if-in-I32.ensures.limit done)
+    rw c.in-I32.is (written_near _ c.args.at _ old new (subst IsSome accessor refl) c.write_in_leaf_if-in-I32.ensures.limit (c.write_in_leaf_if-in-I32.ensures.elsewhere t) done)
 
 pub returns-in-I64-clause-written : goal.returns-in-I64-clause-written
 returns-in-I64-clause-written g c = λ t.
@@ -37,4 +37,4 @@ returns-in-I64-clause-written g c = λ t.
     let accessor = (rw (to_z-of_z w32 c.args.number number) at c.in-Some.ensures) in
     let done =
     subst (λ (o : Option (Write Scalar)). IsWrittenBy c.in-I64.held.tree.limit c.args.at o (grid_field old) (grid_field new) (Ok tt)) write (c.write_in_leaf_if-in-I64.ensures.written t) in
-    rw c.in-I64.is (written_near _ c.args.at (option_map (write_of c.args.on) (value_of I64 c.args.given)) old new (subst IsSome accessor refl) c.write_in_leaf_if-in-I64.ensures.limit done)
+    rw c.in-I64.is (written_near _ c.args.at (option_map (write_of c.args.on) (value_of I64 c.args.given)) old new (subst IsSome accessor refl) c.write_in_leaf_if-in-I64.ensures.limit (c.write_in_leaf_if-in-I64.ensures.elsewhere t) done)
