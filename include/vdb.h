@@ -58,7 +58,7 @@
 
 /* The version of this header. A library of the same major version, and of this minor version or a later one, has all of its calls. */
 #define VDB_VERSION_MAJOR 1
-#define VDB_VERSION_MINOR 1
+#define VDB_VERSION_MINOR 2
 #define VDB_VERSION_PATCH 0
 #define VDB_VERSION (1000000 * VDB_VERSION_MAJOR + 1000 * VDB_VERSION_MINOR + VDB_VERSION_PATCH)
 

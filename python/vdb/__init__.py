@@ -22,7 +22,7 @@ from .mask import Mask
 from .scene import Scene, load, loads
 from .view import View
 
-__version__ = "1.1.0"
+__version__ = "1.2.0"
 __all__ = [
     "load", "loads", "Scene", "Grid", "Mask", "View", "ImageView", "Census", "Boxes", "Labels", "Leaf", "Metadata", "formats", "label_names",
     "labels", "scenefile", "__version__", *errors.__all__,

@@ -121,14 +121,14 @@ class Installed(unittest.TestCase):
         return run(["cmake", "-S", source, "-B", work() / f"built-{version}", f"-DCMAKE_PREFIX_PATH={installed() / 'usr'}"])
 
     def test_programs_by_cmake(self):
-        ran = self.configure("1.1")
+        ran = self.configure("1.2")
         self.assertEqual(ran.returncode, 0, ran.stdout + ran.stderr)
-        done(["cmake", "--build", work() / "built-1.1"])
+        done(["cmake", "--build", work() / "built-1.2"])
         for language in EXAMPLES:
-            self.is_right(work() / "built-1.1" / f"labels_{language}", installed())
+            self.is_right(work() / "built-1.2" / f"labels_{language}", installed())
 
     def test_cmake_refuses_another_version(self):
-        for version in ("1.2", "2.0", "0.9"):
+        for version in ("1.3", "2.0", "0.9"):
             with self.subTest(version):
                 ran = self.configure(version)
                 self.assertEqual(ran.returncode, 1)

@@ -5,9 +5,9 @@ ghost use Rattle.vdb_c.specs.Texts.{is_ended};
 /// Returns the version of the library as one number: 1,000,000 for each of the first part, 1,000 for each of the second, and the third.
 #[unsafe(no_mangle)]
 pub extern "C" fn vdb_version() -> i32
-    ensures { result ≡ pos 1001000 }
+    ensures { result ≡ pos 1002000 }
 {
-    1_001_000
+    1_002_000
 }
 
 /// Writes to `text` where the text of a code begins. It ends with a 0, and stays there for as long as the program runs.

@@ -111,7 +111,7 @@ fn command<'a>(alloc: Global) -> Result<Command<'a>, AllocError>
         "Scene file to write at the end; an existing file is overwritten",
     );
     let command = Command::new(alloc, "vdb")
-        .version("1.1.0")
+        .version("1.2.0")
         .about("Runs a script on sparse voxel grids and prints one answer per command.")
         .after_help(COMMANDS);
     let command = command.arg(load)?.arg(save)?.arg(script_word(alloc))?;
