@@ -1,4 +1,4 @@
-use Rattle.vdb_file.proofs.Common.{rules, FitsSigned, ⊤, w32, w64, int_eq, beq, err_from_is_err_and, number_bytes, truth_bytes, I32, I64}
+use Rattle.vdb_file.proofs.Common.{arith, rules, FitsSigned, ⊤, w32, w64, int_eq, beq, err_from_is_err_and, number_bytes, truth_bytes, I32, I64}
 use Rattle.vdb_value.specs.declared.Kind.TheVariants as kinds
 use Rattle.vdb_scene.specs.declared.scalar.Scalar.TheVariants.{Bool as truth}
 use Rattle.vdb_file.proofs.GridParts.{no_kind}
@@ -61,19 +61,10 @@ pub returns-in_ok-longs-in-2-clause-moves : goal.returns-in_ok-longs-in-2-clause
 returns-in_ok-longs-in-2-clause-moves g c = moves_ok (moves_then c.in_ok-kind.ensures.moves c.in_ok-longs-in-2.ensures.moves)
 
 pub from_tree-requires : goal.from_tree-requires
-from_tree-requires g c = record {
-  some = c.in_ok-truths-in-0.ensures.reads.0.head.positive;
-  few = c.in_ok-truths-in-0.ensures.reads.0.head.limited;
-}
+from_tree-requires g c = let head = c.in_ok-truths-in-0.ensures.reads.0.head in (omega arith, (head.positive, head.limited))
 
-pub from_tree-in-1-requires : goal.from_tree-in-1-requires
-from_tree-in-1-requires g c = record {
-  some = c.in_ok-numbers-in-1.ensures.reads.0.head.positive;
-  few = c.in_ok-numbers-in-1.ensures.reads.0.head.limited;
-}
+pub from_tree-requires-in-1 : goal.from_tree-requires-in-1
+from_tree-requires-in-1 g c = let head = c.in_ok-numbers-in-1.ensures.reads.0.head in (omega arith, (head.positive, head.limited))
 
-pub from_tree-in-2-requires : goal.from_tree-in-2-requires
-from_tree-in-2-requires g c = record {
-  some = c.in_ok-longs-in-2.ensures.reads.0.head.positive;
-  few = c.in_ok-longs-in-2.ensures.reads.0.head.limited;
-}
+pub from_tree-requires-in-2 : goal.from_tree-requires-in-2
+from_tree-requires-in-2 g c = let head = c.in_ok-longs-in-2.ensures.reads.0.head in (omega arith, (head.positive, head.limited))
