@@ -61,12 +61,9 @@ inline void require(bool holds, const char *what)
 }
 
 inline Step parts(const Coord &at) { return {at.x, at.y, at.z}; }
-inline int32_t side(const Part &tile) { return int32_t(int64_t(tile.box.max.x) - tile.box.min.x + 1); }
-inline uint64_t size(const Box &box)
-{
-    const auto length = [](int32_t first, int32_t last) { return uint64_t(int64_t(last) - first + 1); };
-    return length(box.min.x, box.max.x) * length(box.min.y, box.max.y) * length(box.min.z, box.max.z);
-}
+inline int64_t length(const Box &box, std::size_t axis) { return int64_t(parts(box.max)[axis]) - parts(box.min)[axis] + 1; }
+inline int32_t side(const Part &tile) { return static_cast<int32_t>(length(tile.box, 0)); }
+inline uint64_t size(const Box &box) { return uint64_t(length(box, 0)) * uint64_t(length(box, 1)) * uint64_t(length(box, 2)); }
 inline bool is_active(const Leaf &leaf, std::size_t voxel) { return leaf.states[voxel >> 6] >> (voxel & 63) & 1; }
 
 // Returns the voxel `by` steps away, if it has coordinates.
@@ -97,118 +94,6 @@ template <typename OfLeaf, typename OfTile> void each_part(const Grid &grid, OfL
             of_tile(part);
 }
 
-// The cells of a grid's leaves, voxel by voxel, and of its tiles: 0 if inactive, else 1 + the index of the value among `values`, which rise.
-class Items {
-public:
-    explicit Items(const Grid &grid)
-    {
-        each_part(
-            grid,
-            [&](const Leaf &leaf) {
-                places_[0].emplace(leaf.origin, leaves.size());
-                leaves.push_back(leaf.origin);
-                for (std::size_t voxel = 0; voxel < 512; voxel++)
-                    cells.push_back(is_active(leaf, voxel) ? number(leaf.values[voxel]) : 0);
-            },
-            [&](const Part &tile) {
-                places_[side(tile) == 8 ? 1 : side(tile) == 128 ? 2 : 3].emplace(tile.box.min, tiles.size());
-                tiles.push_back(tile);
-                cells.push_back(number(tile.value));
-            });
-        require(cells.size() < UINT32_MAX, "the grid has too many leaves");
-        std::vector<uint32_t> ranks = {0};
-        const std::vector<int64_t> found = values;
-        std::sort(values.begin(), values.end());
-        for (const int64_t value : found)
-            ranks.push_back(static_cast<uint32_t>(index(value) + 1));
-        for (uint32_t &cell : cells)
-            cell = ranks[cell];
-    }
-
-    std::vector<Coord> leaves;
-    std::vector<Part> tiles;
-    std::vector<uint32_t> cells;
-    std::vector<int64_t> values;
-
-    std::size_t voxels() const { return 512 * leaves.size(); }
-    std::size_t index(int64_t value) const { return std::size_t(std::lower_bound(values.begin(), values.end(), value) - values.begin()); }
-    Coord first(std::size_t node) const
-    {
-        return node < voxels() ? place(leaves[node >> 9], node & 511) : tiles[node - voxels()].box.min;
-    }
-
-    // Calls use(index, index, step, faces) with each two cells that touch by a step that changes at most `order` coordinates.
-    template <typename Use> void contacts(int order, Use &&use) const
-    {
-        std::vector<Step> steps;
-        for (int32_t number = 0; number < 27; number++) {
-            const Step step = {number / 9 - 1, number / 3 % 3 - 1, number % 3 - 1};
-            if (number != 13 && std::abs(step[0]) + std::abs(step[1]) + std::abs(step[2]) <= order)
-                steps.push_back(step);
-        }
-        for (std::size_t leaf = 0; leaf < leaves.size(); leaf++)
-            for (const Step &step : steps)
-                of_leaf(leaf, step, use);
-        for (std::size_t tile = 0; tile < tiles.size(); tile++)
-            for (const Step &step : steps) {
-                const int32_t length = side(tiles[tile]);
-                const std::size_t other = tile_at(moved(tiles[tile].box.min, step, length), length);
-                if (other != none && (side(tiles[other - voxels()]) > length || step > Step{0, 0, 0}))
-                    use(voxels() + tile, other, step, uint64_t(length) * uint64_t(length));
-            }
-    }
-
-private:
-    uint32_t number(int64_t value)
-    {
-        const auto [found, is_new] = numbers_.emplace(value, static_cast<uint32_t>(values.size() + 1));
-        if (is_new)
-            values.push_back(value);
-        return found->second;
-    }
-
-    // Returns the index of the tile of at least a side that has a voxel, or none.
-    std::size_t tile_at(const std::optional<Coord> &at, int32_t least) const
-    {
-        for (std::size_t level = 1; at && level < 4; level++) {
-            const int32_t length = level == 1 ? 8 : level == 2 ? 128 : 4096;
-            const auto found = places_[level].find({at->x & -length, at->y & -length, at->z & -length});
-            if (length >= least && found != places_[level].end())
-                return voxels() + found->second;
-        }
-        return none;
-    }
-
-    // Calls `use` with each voxel of a leaf and what is a step away.
-    template <typename Use> void of_leaf(std::size_t leaf, const Step &step, Use &&use) const
-    {
-        std::array<std::size_t, 27> around; // the first index of the block in which a step ends
-        around.fill(unknown);
-        for (std::size_t voxel = 0; voxel < 512; voxel++) {
-            const Step to = {int32_t(voxel >> 6) + step[0], int32_t(voxel >> 3 & 7) + step[1], int32_t(voxel & 7) + step[2]};
-            const std::size_t index = 512 * leaf + voxel, part = static_cast<std::size_t>((to[0] & 7) << 6 | (to[1] & 7) << 3 | (to[2] & 7));
-            const Step out = {to[0] >> 3, to[1] >> 3, to[2] >> 3};
-            if (out == Step{0, 0, 0}) {
-                if (step > out)
-                    use(index, 512 * leaf + part, step, 1);
-                continue;
-            }
-            std::size_t &block = around[static_cast<std::size_t>(9 * out[0] + 3 * out[1] + out[2] + 13)];
-            if (block == unknown) {
-                const std::optional<Coord> at = moved(leaves[leaf], out, 8);
-                const auto found = at ? places_[0].find(*at) : places_[0].end();
-                block = found != places_[0].end() ? 512 * found->second : tile_at(at, 8);
-            }
-            if (block != none && (block >= voxels() || step > Step{0, 0, 0}))
-                use(index, block >= voxels() ? block : block + part, step, 1);
-        }
-    }
-
-    static constexpr std::size_t none = SIZE_MAX, unknown = none - 1;
-    std::unordered_map<int64_t, uint32_t> numbers_;
-    std::array<std::unordered_map<Coord, std::size_t>, 4> places_;
-};
-
 } // namespace detail
 
 // Returns the active voxels as boxes of one value each: tiles, and runs along z of leaves. Boxes don't overlap.
@@ -234,13 +119,107 @@ inline std::vector<LabelBox> boxes(const Grid &grid)
 
 namespace detail {
 
-// Writes the active voxels of a grid to another one with the value that `value` returns for theirs, and leaves out those for which it returns none.
-template <typename Value> Grid mapped(const Grid &from, Grid made, Value &&value)
+// The cells of a grid's leaves, voxel by voxel, and of its tiles: 0 if inactive, else the number of the value, from 1 on.
+class Items {
+public:
+    explicit Items(const Grid &grid)
+    {
+        const auto number = [&](int64_t value) { return numbers.try_emplace(value, static_cast<uint32_t>(numbers.size() + 1)).first->second; };
+        each_part(
+            grid,
+            [&](const Leaf &leaf) {
+                places_[8].emplace(leaf.origin, cells.size());
+                leaves.push_back(leaf.origin);
+                for (std::size_t voxel = 0; voxel < 512; voxel++)
+                    cells.push_back(is_active(leaf, voxel) ? number(leaf.values[voxel]) : 0);
+            },
+            [&](const Part &tile) {
+                places_[side(tile)].emplace(tile.box.min, cells.size());
+                tiles.push_back(tile);
+                cells.push_back(number(tile.value));
+            });
+        require(cells.size() < UINT32_MAX, "the grid has too many leaves");
+    }
+
+    std::vector<Coord> leaves;
+    std::vector<Part> tiles;
+    std::vector<uint32_t> cells;
+    std::unordered_map<int64_t, uint32_t> numbers;
+
+    std::size_t voxels() const { return 512 * leaves.size(); }
+    Coord first(std::size_t node) const
+    {
+        return node < voxels() ? place(leaves[node >> 9], node & 511) : tiles[node - voxels()].box.min;
+    }
+
+    // Calls use(index, index, step, faces) with each two cells that touch by a step that changes at most `order` coordinates.
+    template <typename Use> void contacts(int order, Use &&use) const
+    {
+        const auto number = [](const Step &step) { return static_cast<std::size_t>(9 * step[0] + 3 * step[1] + step[2] + 13); };
+        std::vector<Step> steps;
+        for (const int32_t x : {-1, 0, 1})
+            for (const int32_t y : {-1, 0, 1})
+                for (const int32_t z : {-1, 0, 1})
+                    if (const int sum = std::abs(x) + std::abs(y) + std::abs(z); sum > 0 && sum <= order)
+                        steps.push_back({x, y, z});
+        std::array<std::size_t, 27> around{}; // the first cell of a leaf, and of what is a step away from it
+        for (std::size_t leaf = 0; leaf < leaves.size(); leaf++) {
+            around[13] = 512 * leaf;
+            for (const Step &step : steps)
+                around[number(step)] = block_at(moved(leaves[leaf], step, 8), 8);
+            for (const Step &step : steps)
+                for (std::size_t voxel = 0; voxel < 512; voxel++) {
+                    const Step to = {int32_t(voxel >> 6) + step[0], int32_t(voxel >> 3 & 7) + step[1], int32_t(voxel & 7) + step[2]};
+                    const std::size_t block = around[number({to[0] >> 3, to[1] >> 3, to[2] >> 3})];
+                    if (block < voxels() && step > Step{0, 0, 0})
+                        use(512 * leaf + voxel, block + static_cast<std::size_t>((to[0] & 7) << 6 | (to[1] & 7) << 3 | (to[2] & 7)), step, 1);
+                    else if (block >= voxels() && block != none)
+                        use(512 * leaf + voxel, block, step, 1);
+                }
+        }
+        for (std::size_t tile = 0; tile < tiles.size(); tile++)
+            for (const Step &step : steps) {
+                const int32_t length = side(tiles[tile]);
+                const std::size_t other = block_at(moved(tiles[tile].box.min, step, length), length);
+                if (other != none && other >= voxels() && (side(tiles[other - voxels()]) > length || step > Step{0, 0, 0}))
+                    use(voxels() + tile, other, step, uint64_t(length) * uint64_t(length));
+            }
+    }
+
+private:
+    // Returns the first cell of the leaf or the tile of at least a side that has a voxel, or none.
+    std::size_t block_at(const std::optional<Coord> &at, int32_t least) const
+    {
+        for (auto level = places_.lower_bound(least); at && level != places_.end(); ++level) {
+            const auto &[length, blocks] = *level;
+            const auto found = blocks.find({at->x & -length, at->y & -length, at->z & -length});
+            if (found != blocks.end())
+                return found->second;
+        }
+        return none;
+    }
+
+    static constexpr std::size_t none = SIZE_MAX;
+    std::map<int32_t, std::unordered_map<Coord, std::size_t>> places_; // leaves and tiles by their sides, and then by their least corners
+};
+
+// Writes the active voxels of a grid whose value is a key to another grid, with the value of that key.
+inline Grid mapped(const Grid &from, Grid made, const std::map<int64_t, int64_t> &pairs)
 {
-    for (const LabelBox &it : boxes(from))
-        if (const std::optional<int64_t> to = value(it.value))
-            made.fill(it.box, *to);
+    for (const auto &[box, value] : boxes(from))
+        if (const auto found = pairs.find(value); found != pairs.end())
+            made.fill(box, found->second);
     made.prune();
+    return made;
+}
+
+inline Mask changed(const Grid &grid, bool dilates, uint32_t iterations)
+{
+    require(iterations > 0, "the number of iterations is at least 1");
+    Mask made(grid);
+    for (const bool turn : {dilates, !dilates})
+        for (uint32_t left = iterations; left > 0; left -= std::min(left, 16U))
+            turn ? made.dilate(std::min(left, 16U)) : made.erode(std::min(left, 16U));
     return made;
 }
 
@@ -249,19 +228,14 @@ template <typename Value> Grid mapped(const Grid &from, Grid made, Value &&value
 // Returns the mask of the active voxels that have one of some values.
 inline Mask select(const Grid &grid, const std::vector<int64_t> &values)
 {
-    return Mask(detail::mapped(grid, Grid(Kind::boolean, 0, grid.limit()), [&](int64_t value) {
-        return std::find(values.begin(), values.end(), value) == values.end() ? std::nullopt : std::optional<int64_t>(1);
-    }));
+    std::map<int64_t, int64_t> pairs;
+    for (const int64_t value : values)
+        pairs[value] = 1;
+    return Mask(detail::mapped(grid, Grid(Kind::boolean, 0, grid.limit()), pairs));
 }
 
 // Returns a copy in which each active voxel whose value is a key has the value of that key.
-inline Grid relabel(const Grid &grid, const std::map<int64_t, int64_t> &pairs)
-{
-    return detail::mapped(grid, grid.copy(), [&](int64_t value) {
-        const auto found = pairs.find(value);
-        return found == pairs.end() ? std::nullopt : std::optional<int64_t>(found->second);
-    });
-}
+inline Grid relabel(const Grid &grid, const std::map<int64_t, int64_t> &pairs) { return detail::mapped(grid, grid.copy(), pairs); }
 
 // Returns a grid with the active voxels that are active in the mask too. All others are the background, inactive.
 inline Grid where(const Grid &grid, const Grid &mask)
@@ -304,7 +278,7 @@ inline std::vector<Measure> measure(const Grid &grid, const Spacing &spacing = {
     for (const double size : spacing)
         detail::require(size > 0 && std::isfinite(size), "the spacing is three positive numbers");
     const detail::Items items(grid);
-    const std::size_t count = items.values.size();
+    const std::size_t count = items.numbers.size();
     const double total = spacing[0] * spacing[1] * spacing[2];
     std::vector<Measure> made(count);
     std::vector<std::array<uint64_t, 3>> inner(count + 1); // of each label the faces along each axis between two of its voxels
@@ -312,18 +286,20 @@ inline std::vector<Measure> measure(const Grid &grid, const Spacing &spacing = {
     std::map<std::pair<uint32_t, uint32_t>, std::array<uint64_t, 3>> touching;
     const detail::Step origin = detail::parts(grid.bounds().value_or(Box{}).min);
     for (const auto &[box, value] : boxes(grid)) {
-        Measure &it = made[items.index(value)];
+        const std::size_t label = items.numbers.at(value) - 1;
+        Measure &it = made[label];
         const Box &old = it.voxels == 0 ? box : it.bounds;
+        it.value = value;
         it.bounds = {{std::min(old.min.x, box.min.x), std::min(old.min.y, box.min.y), std::min(old.min.z, box.min.z)},
                      {std::max(old.max.x, box.max.x), std::max(old.max.y, box.max.y), std::max(old.max.z, box.max.z)}};
         it.voxels += detail::size(box);
         for (std::size_t axis = 0; axis < 3; axis++) {
             const int64_t middle = int64_t(detail::parts(box.min)[axis]) + detail::parts(box.max)[axis] - 2 * int64_t(origin[axis]);
-            sums[items.index(value)][axis] += static_cast<long double>(middle) * static_cast<long double>(detail::size(box));
+            sums[label][axis] += static_cast<long double>(middle) * static_cast<long double>(detail::size(box));
         }
     }
     for (const Part &tile : items.tiles)
-        for (uint64_t &faces : inner[items.index(tile.value) + 1])
+        for (uint64_t &faces : inner[items.numbers.at(tile.value)])
             faces += uint64_t(detail::side(tile) - 1) * uint64_t(detail::side(tile)) * uint64_t(detail::side(tile));
     items.contacts(1, [&](std::size_t one, std::size_t other, const detail::Step &step, uint64_t each) {
         const std::size_t axis = step[0] ? 0 : step[1] ? 1 : 2;
@@ -335,22 +311,22 @@ inline std::vector<Measure> measure(const Grid &grid, const Spacing &spacing = {
     });
     for (std::size_t label = 0; label < count; label++) {
         Measure &it = made[label];
-        it.value = items.values[label];
         it.volume = static_cast<double>(it.voxels) * total;
         for (std::size_t axis = 0; axis < 3; axis++) {
             const long double middle = static_cast<long double>(origin[axis]) + sums[label][axis] / (2 * static_cast<long double>(it.voxels));
-            const int64_t side = int64_t(detail::parts(it.bounds.max)[axis]) - detail::parts(it.bounds.min)[axis] + 1;
             it.centroid[axis] = static_cast<double>(middle);
-            it.extent[axis] = static_cast<double>(side) * spacing[axis];
+            it.extent[axis] = static_cast<double>(detail::length(it.bounds, axis)) * spacing[axis];
             it.area += static_cast<double>(2 * (it.voxels - inner[label + 1][axis])) * (total / spacing[axis]);
         }
     }
     for (const auto &[pair, counts] : touching)
         for (std::size_t axis = 0; axis < 3; axis++) {
             const double area = static_cast<double>(counts[axis]) * (total / spacing[axis]);
-            made[pair.first - 1].neighbours[items.values[pair.second - 1]] += area;
-            made[pair.second - 1].neighbours[items.values[pair.first - 1]] += area;
+            Measure &one = made[pair.first - 1], &other = made[pair.second - 1];
+            one.neighbours[other.value] += area;
+            other.neighbours[one.value] += area;
         }
+    std::sort(made.begin(), made.end(), [](const Measure &one, const Measure &other) { return one.value < other.value; });
     return made;
 }
 
@@ -399,20 +375,6 @@ inline Grid components(const Grid &grid, int connectivity = 6)
     made.prune();
     return made;
 }
-
-namespace detail {
-
-inline Mask changed(const Grid &grid, bool dilates, uint32_t iterations)
-{
-    require(iterations > 0, "the number of iterations is at least 1");
-    Mask made(grid);
-    for (const bool turn : {dilates, !dilates})
-        for (uint32_t left = iterations; left > 0; left -= std::min(left, 16U))
-            turn ? made.dilate(std::min(left, 16U)) : made.erode(std::min(left, 16U));
-    return made;
-}
-
-} // namespace detail
 
 // Returns the mask of the active voxels, opened: eroded, then dilated in as many iterations by faces. It loses what is thinner.
 inline Mask open(const Grid &grid, uint32_t iterations = 1) { return detail::changed(grid, false, iterations); }
