@@ -89,8 +89,7 @@ class Measures(NamedTuple):
         near: "dict[bool | int, dict[bool | int, float]]" = {value: {} for value in self.values.tolist()}
         for (one, other), area in zip(self.pairs.tolist(), self.contacts.tolist()):
             near[one][other] = near[other][one] = area
-        columns = (column.tolist() for column in self[1:8])
-        for value, voxels, volume, centroid, low, high, extent, area in zip(self.values.tolist(), *columns):
+        for value, voxels, volume, centroid, low, high, extent, area in zip(*(column.tolist() for column in self[:8])):
             name = names[value].name if value in names else ""
             yield MeasureRow(value, name, voxels, volume, tuple(centroid), tuple(low), tuple(high), tuple(extent), area, near[value])
 
@@ -167,13 +166,11 @@ def sums_of(items: Items, labels: Labels) -> np.ndarray:
     widest = int((labels.high.max(axis=0, initial=-(2**31)) - origin).max())
     # past the origin, by Python's integers only if 64 bits are too few
     sums = np.zeros((3, count), np.int64 if 2 * widest * int(labels.counts.sum()) < 2**63 else object)
-    for part in items.chunks():
-        cells, offsets = items.cells[part].ravel(), items.lows[part].astype(np.int64) - origin
-        for axis in range(3):
-            at = offsets[:, axis, None] + OFFSETS[:, axis]
-            sums[axis] += 2 * np.bincount(cells, at.ravel(), count).astype(np.int64)
-    middles = 2 * (items.corners - origin) + (items.sides - 1)[:, None]
+    offsets, middles = items.lows - origin, 2 * (items.corners - origin) + (items.sides - 1)[:, None]
     for axis in range(3):
+        for part in items.chunks():
+            at = offsets[part, axis, None] + OFFSETS[:, axis]
+            sums[axis] += 2 * np.bincount(items.cells[part].ravel(), at.ravel(), count).astype(np.int64)
         np.add.at(sums[axis], items.tiles, middles[:, axis].astype(sums.dtype) * items.sides**3)
     return sums.T[1:].astype(object) + 2 * labels.counts.astype(object)[:, None] * origin.astype(object)
 
@@ -289,11 +286,8 @@ def ranked(edges: np.ndarray, corners: np.ndarray) -> "tuple[np.ndarray, np.ndar
     graph = package("scipy.sparse", "python3-scipy").coo_matrix((np.ones(len(edges[0]), np.int8), tuple(edges)), shape=(len(corners),) * 2)
     component = package("scipy.sparse.csgraph", "python3-scipy").connected_components(graph, directed=False)[1]
     order = np.lexsort(corners.T[::-1])
-    _, index = np.unique(component[order], return_index=True)
-    firsts = order[np.sort(index)]
-    ranks = np.zeros(len(index), np.int64)
-    ranks[component[firsts]] = np.arange(1, len(index) + 1)
-    return ranks[component], corners[firsts]
+    firsts = order[np.sort(np.unique(component[order], return_index=True)[1])]
+    return np.argsort(component[firsts])[component] + 1, corners[firsts]  # argsort inverts a permutation
 
 
 def changed(mask: Mask, names: Sequence[str], iterations: int) -> Mask:
