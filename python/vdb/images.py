@@ -15,7 +15,7 @@
     image_sizes                   the voxel sizes of the header: 1,1,2.5                                        if the affine gives them
 
 A number has all its digits, unless a row has no room for them. A grid with rows and without `image_array` has a place in the world, but
-no image. Only `Volume.affine` and `Image.index_affine` map INDICES of an array.
+no image. One with `image_array` and without rows is an image whose affine is the identity. Only `Volume.affine` and `Image.index_affine` map INDICES of an array.
 """
 from __future__ import annotations
 
@@ -125,12 +125,12 @@ def kept(metadata: Pairs, dtype: "np.dtype | None" = None) -> Dict[str, str]:
 
 
 def agreed(first: Metadata, second: Pairs, dtype: np.dtype) -> Metadata:
-    """Returns the metadata for what two grids are combined to: those of the first one, whose values have this dtype. If it has no image, or
-    no affine, that of the second one is taken. Raises GeometryError if both have images, or places in the world, that differ."""
+    """Returns the metadata for what two grids are combined to: those of the first one, whose values have this dtype. If it has no image,
+    that of the second one is taken. Raises GeometryError if both have images, or places in the world, that differ."""
     ours, theirs = kept(first), kept(second)
     if ours and theirs and kept(ours, dtype) != kept(theirs, dtype):
         check_same(ours, theirs)
-    if not any(key in theirs and key not in ours for key in (ARRAY, ROWS[0])):
+    if ARRAY in ours or not any(key in theirs and key not in ours for key in (ARRAY, ROWS[0])):
         return first
     found = Image.of(theirs)
     fits = found is None or np.can_cast(found.dtype, dtype, "safe") and (found.dtype == np.bool_) == (dtype == np.bool_)
@@ -140,8 +140,8 @@ def agreed(first: Metadata, second: Pairs, dtype: np.dtype) -> Metadata:
 
 
 def check_same(first: Pairs, second: Pairs) -> None:
-    """Raises GeometryError, which names what differs, if two grids with images, or with affines, have different ones. A file with no affine,
-    or the identity, says nothing of a place."""
+    """Raises GeometryError, which names what differs, if two grids with images, or with affines, have different ones. An image without the
+    pairs of an affine has the identity."""
     one, other = Image.of(first), Image.of(second)
     told = []
     if one and other:
@@ -149,7 +149,7 @@ def check_same(first: Pairs, second: Pairs) -> None:
         told += [f"the first voxel {one.low} and {other.low}"] * (one.low != other.low)
         units = [image.notes.get("image_units") for image in (one, other)]
         told += ["the units {} and {}".format(*units)] * (None not in units and units[0] != units[1])
-    places = [affine_of(pairs) for pairs in (first, second) if {*ROWS} & {*pairs}]
+    places = [affine_of(pairs) for pairs in (first, second) if {*ROWS, ARRAY} & {*pairs}]
     box = next((image.bounds for image in (one, other) if image and image.bounds), ((0, 0, 0), (255, 255, 255)))
     if len(places) == 2 and not close(places[0], places[1], box):
         told.append("the affine {} and {}".format(*(affine.tolist() for affine in places)))

@@ -242,9 +242,10 @@ class Images(Case):
 
     def test_different_images(self):
         volume, other, place = self.volume("a"), self.volume("b", affine_x="0.6,0,0,1"), self.folder / "c"
-        for call in (volume.unite, volume.subtract, volume.intersect):
+        plain = self.written(labels_of(2, (30, 20, 10), 0.1), "d", side=16, metadata={"image_array": "uint8,30,20,10"})
+        for call, second in product((volume.unite, volume.subtract, volume.intersect), (other, plain)):
             with self.assertRaisesRegex(vdb.GeometryError, "the affine"):
-                call(other, place)
+                call(second, place)
             self.assertFalse(place.exists())
         self.assertEqual(volume.unite(other, place, ignore_geometry=True).metadata["affine_x"], "0.5,0,0,1")
 

@@ -87,10 +87,7 @@ class Kept(unittest.TestCase):
             labels.replace(other)
             self.assertEqual(labels.metadata["image_array"], f"{own if own == 'uint8' else name},5,4,3")
         placed = self.made({key: text for key, text in PAIRS.items() if "affine" in key})
-        array = self.made({"image_array": "int16,5,4,3", "image_low": "-9,3,40"})  # as of a file with no affine
         self.assertEqual(dict((placed | self.made()).metadata), {**PAIRS, **OWN})
-        self.assertEqual(dict((array | self.made()).metadata), {**PAIRS, **OWN, "image_array": "int16,5,4,3"})
-        self.assertEqual(dict((self.made() | array).metadata), {**PAIRS, **OWN})
         self.assertEqual(dict((self.made(None) & self.made(None)).metadata), OWN)
 
     def test_different_images(self):
@@ -110,6 +107,19 @@ class Kept(unittest.TestCase):
                 grid = self.made()
                 made = call(grid, other, ignore_geometry=True) or grid
                 self.assertEqual(dict(made.metadata), {**PAIRS, **OWN})
+
+    def test_an_image_without_rows_has_the_identity(self):
+        plain = Image((0, 0, 0), (5, 4, 3), np.dtype("u1"), np.eye(3, 4)).pairs()
+        grid, far = self.made(plain), {"affine_x": "1,0,0,5", "affine_y": "0,1,0,0", "affine_z": "0,0,1,0"}
+        self.assertEqual(plain, {"image_array": "uint8,5,4,3"})
+        for other in ({**plain, **far}, image(low=(0, 0, 0), affine=np.diag([2, 2, 3]) @ np.eye(3, 4)).pairs(), far):
+            for pair in ((grid, self.made(other)), (self.made(other), grid), (grid == 1, self.made(other)), (grid, self.made(other) == 1)):
+                with self.subTest(other, pair=pair), self.assertRaisesRegex(vdb.GeometryError, "the affine"):
+                    operator.or_(*pair)
+        near = {**far, "affine_x": "1,0,0,1e-9"}
+        for other, made in ((plain, plain), ({**plain, **near}, plain), (near, plain), ({}, plain)):
+            self.assertEqual(dict((grid | self.made(other)).metadata), {**made, **OWN})
+        self.assertEqual(dict((self.made({}) | grid).metadata), {**plain, "image_array": "uint8,5,4,3", **OWN})
 
     def test_a_view_is_not_pickled(self):
         with self.assertRaisesRegex(vdb.DtypeError, r"pickle view\.copy\(\)"):
