@@ -173,7 +173,15 @@ class CommandLine(CommandCase):
         for axis, shape in (("x", (7, 6)), ("y", (7, 6))):
             self.run_it("slice", "a.vdbs", "lab", "--axis", axis, "--at", "2", "--scale", "1", "out.png")
             self.assertEqual(self.pixels("out.png").shape[:2], shape)
-        self.fails("slice", "a.vdbs", "lab", "--axis", "x", "--at", "9", "--bounds", *"000111", "out.png", told="outside the bounds")
+        self.fails("slice", "a.vdbs", "lab", "--axis", "x", "--at", "9", "--bounds", *"000111", "out.png", told="outside the bounds, 0 to 1")
+        for at in (4089, 4098):  # the image has 4090, and the active voxels begin at 4091
+            self.fails("slice", "a.vdbs", "lab", "--axis", "z", "--at", "4090", "--at", at, "out.png",
+                       told=f"a.vdbs: the plane z = {at} lies outside 4090 to 4097")  # fmt: skip
+        self.run_it("slice", "a.vdbs", "lab", "--axis", "z", "--at", "4090", "--scale", "1", "out.png")
+        self.assertEqual(self.pixels("out.png").reshape(-1, 3).max(axis=0).tolist(), [228, 228, 224])
+        scenefile.Scene({"a": scenefile.Grid.from_array(self.values)}).save(self.folder / "b.vdbs")
+        self.fails("slice", "b.vdbs", "--axis", "z", "--at", "0", "out.png", told="b.vdbs: the plane z = 0 lies outside 1 to 7")
+        self.run_it("slice", "b.vdbs", "--axis", "z", "--at", "0", "--bounds", *"000111", "out.png")
 
     def test_montage(self):
         """Planes side by side: each label has its area in all of them, and one square more in the legend."""

@@ -2,6 +2,7 @@
 """Draws planes of a grid as a PNG, in a colour for each value.
 
 With --montage, or more than one --at, the planes stand in one picture with their coordinates and a legend of the labels.
+A plane outside --bounds, or else outside the image and the bounding box of the active voxels, is an error.
 Inactive voxels are pale, and light grey if they have the background's value. Voxels keep their proportions.
 Across an axis of the voxels, x goes to the right and y down, or z down. Across axial, coronal or sagittal, which is the nearest
 axis by the affine, pictures are as in radiology: the left of the body is at the right, its front at the left or up, its head up."""
@@ -12,6 +13,7 @@ from typing import Any
 
 from ..errors import RangeError
 from ..forms import Bounds, check_coordinate
+from ..images import Image
 from ..label_names import Names
 from ..scenefile import Grid, picture
 from ..scenefile.picture import Plane, montage
@@ -42,9 +44,12 @@ def run(arguments: argparse.Namespace) -> None:
         raise Problem(f"{path}: no voxel of {name} is active, so the picture needs --bounds")
     with about(path):
         pane = pane_of(grid, arguments.axis)
-        outside = [at for at in arguments.at or [] if not box[0][pane.axis] <= at <= box[1][pane.axis]]
-        if arguments.bounds and outside:
-            raise Problem(f"{path}: the plane {'xyz'[pane.axis]} = {outside[0]} lies outside the bounds")
+        image = None if arguments.bounds else Image.of(grid.metadata)
+        ends = [at for each in (box, image.bounds if image else None) if each for at in (each[0][pane.axis], each[1][pane.axis])]
+        outside = [at for at in arguments.at or [] if not min(ends) <= at <= max(ends)]
+        if outside:
+            what = "the bounds, " if arguments.bounds else ""
+            raise Problem(f"{path}: the plane {'xyz'[pane.axis]} = {outside[0]} lies outside {what}{min(ends)} to {max(ends)}")
         data = picture.png(drawn(grid, gray, box, pane, names, arguments))
     with output(arguments.out) as file:
         file.write(data)
