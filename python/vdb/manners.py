@@ -25,7 +25,8 @@ CALLS = {
 
 
 class Voxels:
-    """What holds voxels. A comparison with a number makes a mask of the active voxels for which it is true."""
+    """What holds voxels. A comparison with a number makes a mask of the active voxels for which it is true. With a list or
+    an array it is a DtypeError: `select` takes several values."""
 
     #: How a dense array is made, for texts of errors.
     _dense = "grid[...], the values of its bounding box, or grid.to_array(bounds)[0]"
@@ -38,8 +39,8 @@ class Voxels:
     def _compared(self, compare: Callable, other: Any) -> Any:
         if isinstance(other, (Number, np.bool_)) or isinstance(other, np.ndarray) and other.ndim == 0:
             return self._mask(lambda values: compare(values, other))
-        if isinstance(other, np.ndarray):
-            raise DtypeError(f"a grid is compared with a number, or an array with {self._dense}")
+        if isinstance(other, (np.ndarray, list, tuple, set, range)):
+            raise DtypeError(f"a grid is compared with a number; select([3, 200]) finds several values, and an array is compared with {self._dense}")
         return NotImplemented
 
     def __eq__(self, other: object) -> Any:

@@ -114,10 +114,12 @@ class Errors(unittest.TestCase):
                 (lambda it: np.add.reduce(it), "numpy.add"), (lambda it: np.equal(it, 1, out=np.ones(1)), "numpy.equal"),
                 (lambda it: np.argwhere(it), "active_coordinates"), (lambda it: np.isnan(it), "numpy.isnan"),
                 (lambda it: it == values, "compared with a number"), (lambda it: values < it, "compared with a number"),
+                *((lambda it, other=other: it == other, r"select\(\[3, 200\]\)") for other in (values, [3, 200], (3, 200), {3}, range(3))),
+                (lambda it: [3] != it, r"select\(\[3, 200\]\)"),
             ):  # fmt: skip
                 with self.subTest(grid=grid, text=text), self.assertRaisesRegex(vdb.DtypeError, text):
                     call(grid)
-            self.assertEqual((grid == "3", grid != "3", grid == None, grid == [3]), (False, True, False, False))  # noqa: E711
+            self.assertEqual((grid == "3", grid != "3", grid == None, grid == {}), (False, True, False, False))  # noqa: E711
             for call in (lambda it: it < "3", lambda it: it < it, lambda it: it + 1, lambda it: 3 in it):
                 with self.assertRaises(TypeError):
                     call(grid)
