@@ -177,9 +177,15 @@ class FormatError(VdbError, ValueError):
 
 
 class MagicFault(FormatError):
-    """The first four bytes aren't `VDBS`."""
+    """The first four bytes aren't `VDBS`. If the file has the ending of an image, the text says what reads it."""
 
     fault = "magic"
+
+    def __str__(self) -> str:
+        from .formats import FORMATS
+
+        is_image = (self.path or "").lower().endswith((*FORMATS,))
+        return super().__str__() + ". For an image use vdb.formats.load, or vdb-scene convert IMAGE x.vdbs" * is_image
 
 
 class VersionFault(FormatError):

@@ -167,7 +167,9 @@ def kind_of(kind: object) -> Kind:
     for made in KIND_NUMBERS:
         if dtype is not None and kind is not None and np.can_cast(dtype, made.dtype, "safe"):
             return made
-    raise RangeError(f"the kind of a grid is 'bool', 'i32' or 'i64', or a dtype that one of them holds, not {kind!r}")
+    is_array = isinstance(kind, (np.ndarray, list))
+    given = f"{type(kind).__name__}: Grid.from_array makes a grid of an array" if is_array else repr(kind)
+    raise RangeError(f"the kind of a grid is 'bool', 'i32' or 'i64', or a dtype that one of them holds, not {given}")
 
 
 def kind_of_array(values: np.ndarray) -> Kind:

@@ -15,7 +15,8 @@
     image_sizes                   the voxel sizes of the header: 1,1,2.5                                        if the affine gives them
 
 A number has all its digits, unless a row has no room for them. A grid with rows and without `image_array` has a place in the world, but
-no image. One with `image_array` and without rows is an image whose affine is the identity. Only `Volume.affine` and `Image.index_affine` map INDICES of an array.
+no image. One with `image_array` and without rows is an image whose affine is the identity. Only `Volume.affine` and
+`Image.index_affine` map INDICES of an array.
 """
 from __future__ import annotations
 

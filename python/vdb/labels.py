@@ -25,13 +25,13 @@ from .blocks import OFFSETS, Cubes, Labels, grouped, joined
 from .blocks import numbered as voxels_at
 from .edits import fill_active, strips, write_cubes, write_leaves
 from .engine import Stored
-from .errors import RangeError
+from .errors import DtypeError, RangeError
 from .formats.volume import package
 from .forms import COORDINATE_SPAN, SIDES
 from .grid import Grid
 from .labels_items import Contact, Items, inside, steps_of
 from .mask import Mask
-from .reading import Walkable
+from .reading import Walkable, check_grid
 
 if TYPE_CHECKING:
     from .label_names import Label
@@ -114,7 +114,7 @@ class Tally(NamedTuple):
 
 def measure(grid: Walkable, spacing: "Sequence[float] | None" = None) -> Measures:
     """Returns the measures of each label of a grid, a view, or a grid of a scene file. Sums are exact; what is divided or multiplied by
-    the spacing is a float. Raises RangeError for a spacing that isn't three positive numbers.
+    the spacing is a float. Raises RangeError for a spacing that isn't three positive numbers, and DtypeError for anything but a grid.
 
     Examples
     --------
@@ -122,6 +122,7 @@ def measure(grid: Walkable, spacing: "Sequence[float] | None" = None) -> Measure
     >>> [(row.value, row.volume, row.centroid) for row in vdb.labels.measure(organ, spacing=(1, 1, 2)).rows()]
     [(7, 48.0, (0.5, 1.0, 1.5))]
     """
+    check_grid(grid)
     sizes = spacing_of(grid.metadata, spacing)
     return measures(tally(grid), sizes)
 
@@ -224,6 +225,7 @@ def components(grid: Walkable, connectivity: int = 6) -> Grid:
 
 def numbered(grid: Walkable, connectivity: int) -> "tuple[Grid, np.ndarray]":
     """Returns the components of a grid, and the first voxel of each (n x 3)."""
+    check_grid(grid)
     if connectivity not in ORDERS:
         raise RangeError(f"the connectivity is 6, 18 or 26, not {connectivity!r}")
     items = Items(grid, np.array([False, True]) if grid.kind == "bool" else grid.labels().values)
@@ -354,7 +356,8 @@ def margin(mask: Grid, distance: float, spacing: "Sequence[float] | None" = None
     """Returns the mask of all voxels whose middle is at most this distance from the middle of an active voxel, these too, as
     `scipy.ndimage.distance_transform_edt` finds it on the inactive voxels, with `sampling=spacing`.
 
-    Raises RangeError for a distance below 0 or of more than 256 voxels, or past 32 bits, and for a wrong spacing.
+    Raises RangeError for a distance below 0 or of more than 256 voxels, or past 32 bits, and for a wrong spacing, and DtypeError for a
+    distance that is no number.
 
     Examples
     --------
@@ -387,7 +390,9 @@ def margin(mask: Grid, distance: float, spacing: "Sequence[float] | None" = None
 
 def reaches(distance: float, spacing: Sequence[float]) -> np.ndarray:
     """Returns by how many voxels along z the ball of a distance reaches past its middle (n x m), by those along x and y, -1 for none.
-    Raises RangeError for a distance below 0 or of more than WIDEST voxels."""
+    Raises RangeError for a distance below 0 or of more than WIDEST voxels, and DtypeError if it is no number."""
+    if np.ndim(distance) or np.asarray(distance).dtype.kind not in "uif":
+        raise DtypeError(f"the distance is a number, of millimetres if the spacing is, not {distance!r}")
     if not 0 <= distance <= WIDEST * min(spacing):
         raise RangeError(f"the distance is 0 to {WIDEST} voxels, which are {WIDEST * min(spacing)}, not {distance!r}")
     x, y, z = ((np.arange(floor(distance / size) + 2) * size) ** 2 for size in spacing)

@@ -16,6 +16,7 @@ from .forms import DEFAULT_LIMIT, KINDS, Array, Coordinate, Metadata, Progress, 
 from .grid import Grid
 from .library import Held
 from .manners import no_truth
+from .reading import check_grid
 
 __all__ = ["Mask"]
 
@@ -47,6 +48,8 @@ class Mask(Grid):
 
     def __init__(self, grid: "Stored | None" = None, limit: "int | None" = None, metadata: "Mapping[str, str] | None" = None) -> None:
         """Makes the mask of the active voxels of a grid or a view, or an empty one. Limit and metadata are those of the grid unless given."""
+        if grid is not None:
+            check_grid(grid)
         pairs = Metadata(metadata if grid is None or metadata is not None else grid.metadata)
         if grid is None:
             held = new_grid(BOOL, False, DEFAULT_LIMIT if limit is None else limit)

@@ -58,7 +58,9 @@ def part_of(key: Key, bounds: "Callable[[], Optional[Bounds]]") -> Part:
     if len(dots) == 1 and len(parts) <= 4:
         parts = (*parts[: dots[0]], *[slice(None)] * (4 - len(parts)), *parts[dots[0] + 1 :])
     if len(parts) != 3:
-        raise DtypeError(f"an index is three integers or slices x, y, z, not {key!r}")
+        is_mask = isinstance(key, (Voxels, np.ndarray))
+        given = f"{type(key).__name__}: where(mask) reads the voxels of a mask, and relabel or replace changes values" if is_mask else repr(key)
+        raise DtypeError(f"an index is three integers or slices x, y, z, not {given}")
     is_open = any(isinstance(part, slice) and None in (part.start, part.stop) for part in parts)
     low, high = is_open and bounds() or ((0, 0, 0), (-1, -1, -1))
     (x, width), (y, height), (z, depth) = (span_of(*ends) for ends in zip(parts, low, high))
@@ -294,6 +296,12 @@ class Active:
     def __array__(self, dtype: Any = None, copy: "bool | None" = None) -> np.ndarray:
         """Returns the states of the bounding box of the active voxels."""
         return np.asarray(self[...], dtype)
+
+
+def check_grid(grid: object) -> None:
+    """Raises DtypeError if an argument is no grid."""
+    if not isinstance(grid, Readable):
+        raise DtypeError(f"a grid is wanted, not {type(grid).__name__}: make one by Grid.from_array first")
 
 
 def check_bytes(shape: "tuple[int, ...]", needed: int, most: int) -> None:

@@ -297,6 +297,10 @@ class CommandLine(CommandCase):
         ):
             self.run_it(*words, status=2)
         self.assertFalse((self.folder / "a.vdbs").exists())
+        for words, missing in (
+            (("view", "a.nii"), "OUT.html"), (("slice", "a.nii", "--at", 2), "OUT.png, --axis"), (("view",), "FILE, OUT.html"), (("labels", "a"), "GRID"),
+        ):  # fmt: skip
+            self.assertIn(f"the following arguments are required: {missing}\n", self.called(*words)[2])
 
     def test_errors(self):
         self.made()
@@ -308,12 +312,20 @@ class CommandLine(CommandCase):
         self.fails("convert", "a.vdbs", "o.npy", "--grid", "lab", "--fill", "true", told="integer")
         self.fails("convert", "a.vdbs", "o.npy", "--grid", "lab", "--max-bytes", "9", told="more than max_bytes = 9")
         self.fails("convert", "a.vdbs", "b.vdbs", "--grid", "a", told="b.vdbs: one of IN and OUT is a scene file (.vdbs, .vdbs.gz), and not both")
+        self.fails("convert", "in.npy", "b.nrrd", told="and neither is: convert in two steps, by a scene file")
         self.fails("convert", "a.vdbs", "b.txt", told="b.txt: the ending is none of .npy")
         (self.folder / "bad.npy").write_bytes(data)
         self.fails("convert", "bad.npy", "b.vdbs", told="bad.npy: no .npy file")
         self.fails("convert", "in.npy", "bad.vdbs", "--grid", "a", told="truncated")
         np.save(self.folder / "float.npy", self.values * 0.5)
-        self.fails("convert", "float.npy", "a.vdbs", "--grid", "lab", told="float.npy: the value 1.5 at the index (2, 2, 1) isn't an integer of 64 bits")
+        self.fails("convert", "float.npy", "a.vdbs", "--grid", "lab", told="float.npy: the value 1.5 at the index (2, 2, 1) isn't an integer of 64 bits, so no grid holds it: threshold or round the image first")
+        np.save(self.folder / "long.npy", np.full((1, 1, 1), 2**63, np.uint64))
+        self.fails("convert", "long.npy", "a.vdbs", told="so no grid holds it\n")
+        hint = ". For an image use vdb.formats.load, or vdb-scene convert IMAGE x.vdbs\n"
+        for words in (("info",), ("labels", "lab"), ("mesh", "lab", "o.ply")):
+            self.fails(words[0], "in.npy", *words[1:], told=f"in.npy: byte 0: magic: the file begins with b'\\x93NUM', not b'VDBS'{hint}")
+        (self.folder / "no.vdbs").write_bytes(b"none")
+        self.fails("info", "no.vdbs", told="begins with b'none', not b'VDBS'\n")
         self.assertEqual((self.folder / "a.vdbs").read_bytes(), data)
         self.assertEqual((self.folder / "bad.vdbs").read_bytes(), data[:-1])
 

@@ -366,6 +366,18 @@ class Calls(unittest.TestCase):
             other.metadata["unit"] = "cm"
             self.assertEqual((cell(grid, (0, 0, 0)), grid.metadata["unit"], cell(other, (0, 0, 0))), ((0, False), "mm", (5, True)))
 
+    def test_arrays_in_place_of_grids(self):
+        array, measured = np.ones((2, 2, 2), int), vdb.labels
+        for call in (
+            measured.measure, measured.components, measured.fill_holes, measured.open, measured.close, vdb.Mask, vdb.scenefile.Mask,
+            lambda array: measured.margin(array, 3), lambda array: vdb.formats.save("never.npy", array),
+        ):  # fmt: skip
+            with self.assertRaisesRegex(vdb.DtypeError, r"a grid is wanted, not ndarray: make one by Grid\.from_array first"):
+                call(array)
+        for distance in ("3", None, [3]):
+            with self.assertRaisesRegex(vdb.DtypeError, "the distance is a number, of millimetres if the spacing is, not"):
+                measured.margin(vdb.Grid.from_array(array), distance)
+
     def test_errors_name_the_reason_and_change_nothing(self):
         grid = vdb.Grid("i32", limit=1)
         grid[0, 0, 0] = MOST
@@ -378,6 +390,10 @@ class Calls(unittest.TestCase):
             (ValueError, "outside 32 bits", lambda: grid[0, 0, MOST + 1]),
             (ValueError, "outside 32 bits", lambda: grid.fill((box[0], (0, 0, MOST + 1)), 1)),
             (TypeError, "three integers", lambda: grid[0, 0]),
+            (vdb.DtypeError, r"not Mask: where\(mask\) reads .* relabel or replace changes", lambda: grid[grid == 3]),
+            (vdb.DtypeError, r"not ndarray: where\(mask\) reads", lambda: grid.__setitem__(np.ones((2, 2, 2), bool), 9)),
+            (vdb.RangeError, r"not ndarray: Grid\.from_array makes", lambda: vdb.Grid(np.ones((2, 2, 2), np.uint8))),
+            (vdb.RangeError, r"not list: Grid\.from_array makes", lambda: vdb.Grid([[[3]]])),
             (ValueError, "1 to 16, not 17", lambda: grid.dilate(17)),
             (ValueError, "1 to 16, not 0", lambda: grid.erode(0)),
             (TypeError, "not float", lambda: grid.unite(1.5)),

@@ -1,5 +1,6 @@
 # SPDX-License-Identifier: Apache-2.0
 """Scenes, their files with digests, and the scenes that the program saves."""
+import gzip
 import os
 import subprocess
 import tempfile
@@ -126,6 +127,21 @@ class Program(unittest.TestCase):
             answers = play(script, "--load", f"{folder}/a.vdbs", "--save", f"{folder}/b.vdbs")
             self.assertEqual(answers, f"count {np.count_nonzero(values)}\nvalue -7 on\nunit mm\nend 1\n")
             self.assertEqual(Path(f"{folder}/b.vdbs").read_bytes(), data)
+
+
+class Images(CommandCase):
+    def test_an_image_is_no_scene_file(self):
+        """The error of an image names what reads it, whether the file is compressed or not."""
+        header = b"\\\1\0\0" + bytes(348)  # of NIfTI: its length of 348 bytes comes first
+        (self.folder / "x.nii").write_bytes(header)
+        (self.folder / "x.nii.gz").write_bytes(gzip.compress(header))
+        (self.folder / "x.vdbs").write_bytes(header)
+        for load in (scenefile.load, *([] if library_missing() else [vdb.load])):
+            for name in ("x.nii", "x.nii.gz", "x.vdbs"):
+                with self.assertRaisesRegex(vdb.MagicFault, "VDBS") as caught:
+                    load(name)
+                told = ". For an image use vdb.formats.load, or vdb-scene convert IMAGE x.vdbs"
+                self.assertEqual(str(caught.exception).endswith(told), name != "x.vdbs", name)
 
 
 class Digests(CommandCase):

@@ -8,7 +8,7 @@ import math
 import os
 import re
 import sys
-from typing import Any, BinaryIO, ContextManager, Iterator, Optional, Sequence, Tuple
+from typing import Any, BinaryIO, ContextManager, Iterator, NoReturn, Optional, Sequence, Tuple
 
 import numpy as np
 
@@ -42,6 +42,11 @@ class Parser(argparse.ArgumentParser):
             else:
                 found.grid, found.out = None, found.grid
         return found, rest
+
+    def error(self, message: str) -> NoReturn:
+        """Names OUT where argparse takes it for GRID."""
+        out = next((it.metavar for it in self._actions if it.dest == "out" and it.nargs == "?"), "GRID")
+        super().error(re.sub("(required: .*)GRID", rf"\1{out}", message))
 
     def format_usage(self) -> str:
         return bracketed(super().format_usage())

@@ -62,7 +62,8 @@ def add_arguments(parser: argparse.ArgumentParser) -> None:
 def run(arguments: argparse.Namespace) -> None:
     into = arguments.out.endswith(SCENE)
     if into == arguments.source.endswith(SCENE):
-        raise Problem(f"{arguments.out}: one of IN and OUT is a scene file ({', '.join(SCENE)}), and {'not both' if into else 'neither is'}")
+        raise Problem(f"{arguments.out}: one of IN and OUT is a scene file ({', '.join(SCENE)}), and "
+                      f"{'not both' if into else 'neither is: convert in two steps, by a scene file'}")  # fmt: skip
     if arguments.gzip and arguments.out.endswith(SCENE[0]):
         arguments.out += ".gz"
     (read_in if into else write_out)(arguments)

@@ -23,7 +23,7 @@ from ..errors import DtypeError, FileError, GeometryError, RangeError, VdbError,
 from ..files import naming, replacing
 from ..forms import DEFAULT_LIMIT, Array, Bounds, Coordinate, Progress, Value, check_bounds, check_coordinate, kind_of
 from ..images import DTYPES, Image, affine_of, moved, rows_of
-from ..reading import MAX_BYTES, Readable
+from ..reading import MAX_BYTES, Readable, check_grid
 from ..zarr_stores import is_store
 from . import nifti, npy, nrrd, ome_zarr, tiff, vti
 from .volume import CHUNK, Volume, as_kind
@@ -169,8 +169,8 @@ def save(
     A store of zarr keeps states and background, and any other file of values shows no states. So without `active` or `values_only` a bool grid whose values and states differ is a RangeError: save
     a `Mask` of it. Active voxels of an integer grid that have the background, as after `dilate`, are a VdbWarning.
 
-    Raises the errors of `write` and `to_array`, RangeError with a value that the dtype doesn't hold and its coordinate, and VolumeError if
-    the metadata pairs of the image have another form.
+    Raises the errors of `write` and `to_array`, DtypeError for anything but a grid, RangeError with a value that the dtype doesn't hold and
+    its coordinate, and VolumeError if the metadata pairs of the image have another form.
 
     Examples
     --------
@@ -196,6 +196,7 @@ def volume_of(
     progress: "Progress | None" = None,
 ) -> "Tuple[Volume, Volume]":  # fmt: skip
     """Returns the values and the states of a grid with their place. The arguments and the errors are those of `save`."""
+    check_grid(grid)
     image = Image.of(grid.metadata)
     box = check_bounds(bounds) if bounds is not None else image.bounds if image else grid.bounds
     low = box[0] if box else image.low if image else (0, 0, 0)

@@ -143,7 +143,8 @@ def integers(values: np.ndarray, slope: float = 1, shift: float = 0, floats: boo
 def refuse(part: np.ndarray, good: np.ndarray, first: int) -> NoReturn:
     """Raises VolumeError with the first number of a part that isn't good. The part begins at index `first` along x."""
     x, y, z = np.argwhere(~good)[0].tolist()
-    raise VolumeError(f"the value {part[x, y, z]} at the index {(first + x, y, z)} isn't an integer of 64 bits, so no grid holds it")
+    such = ": threshold or round the image first" if part.dtype.kind == "f" else ""
+    raise VolumeError(f"the value {part[x, y, z]} at the index {(first + x, y, z)} isn't an integer of 64 bits, so no grid holds it{such}")
 
 
 def as_kind(values: np.ndarray, kind: Kind) -> np.ndarray:

@@ -14,7 +14,7 @@ from ..forms import (
     kind_of_array,
 )  # fmt: skip
 from ..manners import no_truth
-from ..reading import Walkable
+from ..reading import Walkable, check_grid
 from .dense import fill_arrays, tree_of
 from .tree import Tree, empty_tree
 
@@ -234,6 +234,7 @@ class Mask(Grid):
         """Makes the mask of the active voxels of a grid, or an empty one. Limit and metadata are those of the grid unless given."""
         if grid is None:
             grid = Grid("bool", limit=DEFAULT_LIMIT if limit is None else limit, metadata=metadata)
+        check_grid(grid)
         pairs = grid.metadata if metadata is None else metadata
         super().__init__("bool", metadata={**pairs, **images.kept(pairs, None if grid.kind == "bool" else KINDS["bool"].dtype)})
         self._tree = grid._tree.mask(lambda values: np.ones(values.shape, np.bool_))
