@@ -11,11 +11,9 @@ from unittest import mock
 
 from scipy import ndimage
 
-from vdb.library import places
-
 from .support import TOP, chance, encoding, library_missing, np, random_array, scenefile, vdb
 
-labels = vdb.labels
+labels, places = vdb.labels, vdb.library.places
 needs_library = unittest.skipIf(library_missing(), library_missing())
 LOW = (-37, 3, 4070)
 

@@ -220,7 +220,7 @@ class Copies(unittest.TestCase):
                 self.assertNotEqual(package.Grid.from_array(values, active, LOW, True if kind == "bool" else 1), grid)
                 self.assertNotEqual(grid, package.Grid("i64" if kind == "i32" else "i32"))
                 self.assertNotEqual(package.Grid(kind, EXTREMES[kind][0]), package.Grid(kind, EXTREMES[kind][1]))
-                self.assertNotEqual(grid, [5])
+                self.assertNotEqual(grid, "5")
                 with self.assertRaises(TypeError):
                     hash(grid)
             scene = package.Scene({"a": grid})
