@@ -185,6 +185,43 @@ inline uint64_t whole(const vdb_count &count)
     return count.low;
 }
 
+// Owns what a handle holds, and counts the calls that may change it.
+template <typename Handle, void (*free)(Handle *)> class Held {
+public:
+    Held() = default;
+    Held(Held &&other) noexcept : handle_(std::exchange(*other.changed(), Handle())) {}
+    Held &operator=(Held &&other) noexcept
+    {
+        if (this != &other) {
+            free(changed());
+            handle_ = std::exchange(*other.changed(), Handle());
+        }
+        return *this;
+    }
+    ~Held() { free(&handle_); }
+
+    // Returns the handle for a call that changes no cell, for one that may, or for calls that this object doesn't see.
+    Handle *handle() const { return &handle_; }
+    Handle *changed()
+    {
+        changes_++;
+        return &handle_;
+    }
+    Handle *lent()
+    {
+        lent_ = true;
+        return &handle_;
+    }
+
+    // Returns a number that no earlier call has returned, if anything may have changed since.
+    uint64_t changes() const { return lent_ ? ++changes_ : changes_; }
+
+private:
+    mutable Handle handle_ = {};
+    mutable uint64_t changes_ = 0;
+    bool lent_ = false;
+};
+
 // The result of `it++`: the element before the step.
 template <typename T> class Before {
 public:
@@ -207,7 +244,7 @@ class Grid {
 public:
     explicit Grid(Kind kind, int64_t background = 0, uint32_t limit = VDB_LIMIT_DEFAULT)
     {
-        check(vdb_grid_new(&grid_, static_cast<int32_t>(kind), background, limit));
+        check(vdb_grid_new(grid_.changed(), static_cast<int32_t>(kind), background, limit));
     }
     // Returns a grid with the values of an array: z fastest and without gaps, unless strides are given. Elements of type bool or int64_t make
     // a grid of that type, and uint8_t, int16_t, uint16_t and int32_t one of int32_t. A voxel of the box is active unless its value is the
@@ -224,76 +261,65 @@ public:
         Grid made;
         const T *data = detail::data_of(values);
         if constexpr (std::is_same_v<T, bool>)
-            check(vdb_grid_from_box_bool(&made.grid_, background, limit, &box, &strides, reinterpret_cast<const uint8_t *>(data), values.size()));
+            check(vdb_grid_from_box_bool(made.grid_.changed(), background, limit, &box, &strides, reinterpret_cast<const uint8_t *>(data), values.size()));
         else if constexpr (std::is_same_v<T, uint8_t>)
-            check(vdb_grid_from_box_u8(&made.grid_, background, limit, &box, &strides, data, values.size()));
+            check(vdb_grid_from_box_u8(made.grid_.changed(), background, limit, &box, &strides, data, values.size()));
         else if constexpr (std::is_same_v<T, int16_t>)
-            check(vdb_grid_from_box_i16(&made.grid_, background, limit, &box, &strides, data, values.size()));
+            check(vdb_grid_from_box_i16(made.grid_.changed(), background, limit, &box, &strides, data, values.size()));
         else if constexpr (std::is_same_v<T, uint16_t>)
-            check(vdb_grid_from_box_u16(&made.grid_, background, limit, &box, &strides, data, values.size()));
+            check(vdb_grid_from_box_u16(made.grid_.changed(), background, limit, &box, &strides, data, values.size()));
         else if constexpr (std::is_same_v<T, int32_t>)
-            check(vdb_grid_from_box_i32(&made.grid_, background, limit, &box, &strides, data, values.size()));
+            check(vdb_grid_from_box_i32(made.grid_.changed(), background, limit, &box, &strides, data, values.size()));
         else {
             static_assert(std::is_same_v<T, int64_t>, "bool, uint8_t, int16_t, uint16_t, int32_t or int64_t");
-            check(vdb_grid_from_box_i64(&made.grid_, background, limit, &box, &strides, data, values.size()));
+            check(vdb_grid_from_box_i64(made.grid_.changed(), background, limit, &box, &strides, data, values.size()));
         }
         return made;
     }
-
-    Grid(Grid &&other) noexcept : grid_(std::exchange(other.grid_, vdb_grid VDB_GRID_INIT)) {}
-    Grid &operator=(Grid &&other) noexcept
-    {
-        if (this != &other) {
-            vdb_grid_free(&grid_);
-            grid_ = std::exchange(other.grid_, vdb_grid VDB_GRID_INIT);
-        }
-        return *this;
-    }
-    ~Grid() { vdb_grid_free(&grid_); }
 
     Grid copy() const
     {
         Grid made;
-        check(vdb_grid_copy(&grid_, &made.grid_));
+        check(vdb_grid_copy(grid_.handle(), made.grid_.changed()));
         return made;
     }
 
     // Returns the handle, for calls of vdb.h. This object still owns it.
-    vdb_grid *handle() { return &grid_; }
+    vdb_grid *handle() { return grid_.lent(); }
 
     Kind kind() const
     {
         int32_t kind = 0;
-        check(vdb_grid_kind(&grid_, &kind));
+        check(vdb_grid_kind(grid_.handle(), &kind));
         return static_cast<Kind>(kind);
     }
     int64_t background() const
     {
         int64_t value = 0;
-        check(vdb_grid_background(&grid_, &value));
+        check(vdb_grid_background(grid_.handle(), &value));
         return value;
     }
     uint32_t limit() const
     {
         uint32_t limit = 0;
-        check(vdb_grid_limit(&grid_, &limit));
+        check(vdb_grid_limit(grid_.handle(), &limit));
         return limit;
     }
 
     Cell get(Coord at) const { return probe(VDB_NO_ACCESSOR, at); }
-    void set(Coord at, int64_t value, bool active = true) { check(vdb_grid_set(&grid_, VDB_NO_ACCESSOR, at.x, at.y, at.z, value, active)); }
-    void set_value(Coord at, int64_t value) { check(vdb_grid_set_value(&grid_, VDB_NO_ACCESSOR, at.x, at.y, at.z, value)); }
-    void set_active(Coord at, bool active) { check(vdb_grid_set_active(&grid_, VDB_NO_ACCESSOR, at.x, at.y, at.z, active)); }
+    void set(Coord at, int64_t value, bool active = true) { check(vdb_grid_set(grid_.changed(), VDB_NO_ACCESSOR, at.x, at.y, at.z, value, active)); }
+    void set_value(Coord at, int64_t value) { check(vdb_grid_set_value(grid_.changed(), VDB_NO_ACCESSOR, at.x, at.y, at.z, value)); }
+    void set_active(Coord at, bool active) { check(vdb_grid_set_active(grid_.changed(), VDB_NO_ACCESSOR, at.x, at.y, at.z, active)); }
 
     // Returns accessor 0 to 7 of this grid.
     Accessor accessor(int32_t index) &;
 
-    void fill(const Box &box, int64_t value, bool active = true) { check(vdb_grid_fill(&grid_, &box, value, active)); }
-    void clip(const Box &box) { check(vdb_grid_clip(&grid_, &box)); }
-    void prune() { check(vdb_grid_prune(&grid_)); }
-    void voxelise(const Box &box) { check(vdb_grid_voxelise(&grid_, &box)); }
-    void dilate(uint32_t iterations = 1) { check(vdb_grid_dilate(&grid_, iterations)); }
-    void erode(uint32_t iterations = 1) { check(vdb_grid_erode(&grid_, iterations)); }
+    void fill(const Box &box, int64_t value, bool active = true) { check(vdb_grid_fill(grid_.changed(), &box, value, active)); }
+    void clip(const Box &box) { check(vdb_grid_clip(grid_.changed(), &box)); }
+    void prune() { check(vdb_grid_prune(grid_.changed())); }
+    void voxelise(const Box &box) { check(vdb_grid_voxelise(grid_.changed(), &box)); }
+    void dilate(uint32_t iterations = 1) { check(vdb_grid_dilate(grid_.changed(), iterations)); }
+    void erode(uint32_t iterations = 1) { check(vdb_grid_erode(grid_.changed(), iterations)); }
 
     // Dilates or erodes a copy, calls progress(done, iterations) after each iteration, and replaces the grid by the copy at the end.
     // If progress throws, the grid is unchanged.
@@ -317,7 +343,7 @@ public:
     template <typename T = int64_t>
     void read_box(const Box &box, const Strides &strides, detail::SpanOf<T> values, Span<uint8_t> states = {}) const
     {
-        detail::read_box<T>(&grid_, vdb_grid_read_box, vdb_grid_read_box_bool, vdb_grid_read_box_i32, box, strides, values, states);
+        detail::read_box<T>(grid_.handle(), vdb_grid_read_box, vdb_grid_read_box_bool, vdb_grid_read_box_i32, box, strides, values, states);
     }
 
     // Sets each voxel of a box from arrays: z fastest and without gaps, unless strides are given. If an array is omitted, the voxels
@@ -330,7 +356,7 @@ public:
                    std::size_t *written = nullptr)
     {
         std::size_t done = 0;
-        const int32_t code = vdb_grid_write_box(&grid_, VDB_NO_ACCESSOR, &box, &strides, detail::data_of(values), values.size(),
+        const int32_t code = vdb_grid_write_box(grid_.changed(), VDB_NO_ACCESSOR, &box, &strides, detail::data_of(values), values.size(),
                                                 detail::data_of(states), states.size(), &done);
         if (written)
             *written = done;
@@ -350,7 +376,7 @@ public:
     uint64_t count(const Box &box = everywhere) const
     {
         vdb_count count = {0, 0};
-        check(vdb_grid_count_in(&grid_, &box, &count));
+        check(vdb_grid_count_in(grid_.handle(), &box, &count));
         return detail::whole(count);
     }
 
@@ -359,14 +385,14 @@ public:
     {
         Box box = everywhere;
         int32_t found = 0;
-        check(vdb_grid_bounds(&grid_, &box, &found));
+        check(vdb_grid_bounds(grid_.handle(), &box, &found));
         return found ? std::optional<Box>(box) : std::nullopt;
     }
 
     Census census() const
     {
         Census census = {0, 0, 0, 0};
-        check(vdb_grid_census(&grid_, &census));
+        check(vdb_grid_census(grid_.handle(), &census));
         return census;
     }
 
@@ -375,7 +401,7 @@ public:
     {
         int32_t equal = 1;
         if (&a != &b)
-            check(vdb_grid_equal(&a.grid_, &b.grid_, &equal));
+            check(vdb_grid_equal(a.grid_.handle(), b.grid_.handle(), &equal));
         return equal != 0;
     }
     friend bool operator!=(const Grid &a, const Grid &b) { return !(a == b); }
@@ -384,7 +410,7 @@ public:
     uint64_t leaf_count() const
     {
         uint64_t count = 0;
-        check(vdb_grid_leaf_count(&grid_, &count));
+        check(vdb_grid_leaf_count(grid_.handle(), &count));
         return count;
     }
 
@@ -423,20 +449,20 @@ private:
     {
         int64_t value = 0;
         int32_t active = 0;
-        check(vdb_grid_probe(&grid_, accessor, at.x, at.y, at.z, &value, &active));
+        check(vdb_grid_probe(grid_.handle(), accessor, at.x, at.y, at.z, &value, &active));
         return {value, active != 0};
     }
 
     void get_by(int32_t accessor, Span<const Coord> at, Span<int64_t> values, Span<uint8_t> states) const
     {
-        check(vdb_grid_get_many(&grid_, accessor, detail::data_of(at), at.size(), detail::data_of(values), values.size(), detail::data_of(states),
+        check(vdb_grid_get_many(grid_.handle(), accessor, detail::data_of(at), at.size(), detail::data_of(values), values.size(), detail::data_of(states),
                                 states.size()));
     }
 
     void set_by(int32_t accessor, Span<const Coord> at, Span<const int64_t> values, Span<const uint8_t> states, std::size_t *written)
     {
         std::size_t done = 0;
-        const int32_t code = vdb_grid_write_many(&grid_, accessor, detail::data_of(at), at.size(), detail::data_of(values), values.size(),
+        const int32_t code = vdb_grid_write_many(grid_.changed(), accessor, detail::data_of(at), at.size(), detail::data_of(values), values.size(),
                                                  detail::data_of(states), states.size(), &done);
         if (written)
             *written = done;
@@ -449,7 +475,7 @@ private:
             throw Error(VDB_RANGE);
         Grid made = copy();
         for (uint32_t done = 1; done <= iterations; done++) {
-            check(call(&made.grid_, 1));
+            check(call(made.grid_.changed(), 1));
             progress(done, iterations);
         }
         *this = std::move(made);
@@ -458,14 +484,15 @@ private:
     void combine(int32_t (*call)(vdb_grid *, vdb_grid *), const Grid &other)
     {
         if (&other != this)
-            return check(call(&grid_, &other.grid_));
+            return check(call(grid_.changed(), other.grid_.handle()));
         Grid twin = copy();
-        check(call(&grid_, &twin.grid_));
+        check(call(grid_.changed(), twin.grid_.handle()));
     }
 
-    vdb_grid *shared() const { return &grid_; }
+    vdb_grid *shared() const { return grid_.handle(); }
+    uint64_t changes() const { return grid_.changes(); }
 
-    mutable vdb_grid grid_ = VDB_GRID_INIT;
+    detail::Held<vdb_grid, vdb_grid_free> grid_;
 };
 
 // An accessor of a grid, which makes look-ups and writes near the last one faster. The grid must outlive it.
@@ -478,9 +505,9 @@ public:
     }
 
     Cell get(Coord at) { return grid_.probe(index_, at); }
-    void set(Coord at, int64_t value, bool active = true) { check(vdb_grid_set(grid_.handle(), index_, at.x, at.y, at.z, value, active)); }
-    void set_value(Coord at, int64_t value) { check(vdb_grid_set_value(grid_.handle(), index_, at.x, at.y, at.z, value)); }
-    void set_active(Coord at, bool active) { check(vdb_grid_set_active(grid_.handle(), index_, at.x, at.y, at.z, active)); }
+    void set(Coord at, int64_t value, bool active = true) { check(vdb_grid_set(grid_.grid_.changed(), index_, at.x, at.y, at.z, value, active)); }
+    void set_value(Coord at, int64_t value) { check(vdb_grid_set_value(grid_.grid_.changed(), index_, at.x, at.y, at.z, value)); }
+    void set_active(Coord at, bool active) { check(vdb_grid_set_active(grid_.grid_.changed(), index_, at.x, at.y, at.z, active)); }
     void get_many(Span<const Coord> at, Span<int64_t> values, Span<uint8_t> states = {}) { grid_.get_by(index_, at, values, states); }
     void write_many(Span<const Coord> at, Span<const int64_t> values, Span<const uint8_t> states = {}, std::size_t *written = nullptr)
     {
@@ -494,7 +521,21 @@ private:
 
 inline Accessor Grid::accessor(int32_t index) & { return Accessor(*this, index); }
 
-// The active voxels of a box of a grid or a view, in block order. The owner must outlive it.
+// A copy of a leaf, a cube of 8 x 8 x 8 voxels.
+struct Leaf {
+    // The least corner.
+    Coord origin;
+    // The values: z fastest, then y, then x.
+    std::array<int64_t, 512> values;
+    // The states: bit 8 y + z of word x.
+    std::array<uint64_t, 8> states;
+
+    // Returns the cell of a voxel, by its distance of 0 to 7 from the least corner along each axis.
+    Cell at(int x, int y, int z) const { return {values.data()[64 * x + 8 * y + z], (states.data()[x] >> (8 * y + z) & 1) != 0}; }
+};
+
+// The active voxels of a box of a grid or a view, in block order. The owner must outlive it. A loop may change the owner: each step sees it
+// as it is then.
 template <typename Owner> class ActiveVoxelsOf {
 public:
     class Iterator {
@@ -506,13 +547,27 @@ public:
         using reference = const Voxel &;
 
         Iterator() = default;
-        Iterator(const Owner &owner, const Box &box) : owner_(&owner), box_(box) { step(Owner::first_active); }
+        Iterator(const Owner &owner, const Box &box) : owner_(&owner), box_(box), changes_(owner.changes()) { search(Owner::first_active); }
 
         reference operator*() const { return voxel_; }
         pointer operator->() const { return &voxel_; }
         Iterator &operator++()
         {
-            step(Owner::next_active);
+            const uint64_t changes = owner_->changes();
+            const bool changed = std::exchange(changes_, changes) != changes;
+            if (changed)
+                found_ = 0;
+            if (found_ == MANY && take())
+                return *this;
+            const Coord origin = cube().min;
+            const bool may_be_next = changed || (found_ > 0 && found_ < MANY);
+            if (!may_be_next || !next())
+                search(Owner::next_active);
+            if (!owner_)
+                return *this;
+            found_ = cube().min == origin ? found_ + 1 : 0;
+            if (found_ == MANY)
+                owner_->read_box(cube(), Span<int64_t>(values_), Span<uint8_t>(states_));
             return *this;
         }
         detail::Before<Voxel> operator++(int)
@@ -525,7 +580,30 @@ public:
         friend bool operator!=(const Iterator &a, const Iterator &b) { return a.owner_ != b.owner_; }
 
     private:
-        template <typename Call> void step(Call call)
+        // So many voxels of a leaf extent are looked up, one after another. Then its cells are copied.
+        static constexpr int MANY = 4;
+
+        // Returns the leaf extent around the voxel.
+        Box cube() const
+        {
+            const Coord &at = voxel_.at;
+            return {{at.x & ~7, at.y & ~7, at.z & ~7}, {at.x | 7, at.y | 7, at.z | 7}};
+        }
+
+        // Returns the number of the voxel in its leaf extent, and the coordinate of a number.
+        std::size_t number() const { return static_cast<std::size_t>((voxel_.at.x & 7) << 6 | (voxel_.at.y & 7) << 3 | (voxel_.at.z & 7)); }
+        Coord place(std::size_t number) const
+        {
+            const Coord &least = cube().min;
+            return {least.x | int32_t(number >> 6), least.y | int32_t(number >> 3 & 7), least.z | int32_t(number & 7)};
+        }
+        bool is_inside(Coord at) const
+        {
+            return at.x >= box_.min.x && at.x <= box_.max.x && at.y >= box_.min.y && at.y <= box_.max.y && at.z >= box_.min.z && at.z <= box_.max.z;
+        }
+
+        // Goes to the next voxel by a search from the root.
+        template <typename Call> void search(Call call)
         {
             int32_t found = 0;
             check(call(owner_->shared(), &box_, &voxel_.at, &voxel_.value, &found));
@@ -533,9 +611,37 @@ public:
                 owner_ = nullptr;
         }
 
+        // Goes to the voxel of the next number, if it is active and in the box.
+        bool next()
+        {
+            const std::size_t after = number() + 1;
+            if (after == 512 || !is_inside(place(after)))
+                return false;
+            const Cell cell = owner_->get(place(after));
+            if (cell.active)
+                voxel_ = {place(after), cell.value};
+            return cell.active;
+        }
+
+        // Goes to the next voxel of the copied cells.
+        bool take()
+        {
+            for (std::size_t after = number() + 1; after < 512; after++)
+                if (states_[after] && is_inside(place(after))) {
+                    voxel_ = {place(after), values_[after]};
+                    return true;
+                }
+            return false;
+        }
+
         const Owner *owner_ = nullptr;
         Box box_ = everywhere;
         Voxel voxel_ = {{0, 0, 0}, 0};
+        uint64_t changes_ = 0;
+        // The voxels found in the leaf extent since the owner changed, up to MANY. The arrays then have its cells.
+        int found_ = 0;
+        std::array<int64_t, 512> values_;
+        std::array<uint8_t, 512> states_;
     };
 
     ActiveVoxelsOf(const Owner &owner, const Box &box) : owner_(&owner), box_(box) {}
@@ -550,19 +656,6 @@ private:
 using ActiveVoxels = ActiveVoxelsOf<Grid>;
 
 inline ActiveVoxels Grid::voxels(const Box &box) const & { return ActiveVoxels(*this, box); }
-
-// A copy of a leaf, a cube of 8 x 8 x 8 voxels.
-struct Leaf {
-    // The least corner.
-    Coord origin;
-    // The values: z fastest, then y, then x.
-    std::array<int64_t, 512> values;
-    // The states: bit 8 y + z of word x.
-    std::array<uint64_t, 8> states;
-
-    // Returns the cell of a voxel, by its distance of 0 to 7 from the least corner along each axis.
-    Cell at(int x, int y, int z) const { return {values.data()[64 * x + 8 * y + z], (states.data()[x] >> (8 * y + z) & 1) != 0}; }
-};
 
 // The leaves of a grid or a view, in block order. The owner must outlive it.
 template <typename Owner> class LeavesOf {
@@ -727,23 +820,13 @@ private:
 class View {
 public:
     // Moves a grid into a view and leaves `grid` empty.
-    explicit View(Grid &&grid) { check(vdb_view_new(grid.handle(), &view_)); }
-    View(View &&other) noexcept : view_(std::exchange(other.view_, vdb_view VDB_VIEW_INIT)) {}
-    View &operator=(View &&other) noexcept
-    {
-        if (this != &other) {
-            vdb_view_free(&view_);
-            view_ = std::exchange(other.view_, vdb_view VDB_VIEW_INIT);
-        }
-        return *this;
-    }
-    ~View() { vdb_view_free(&view_); }
+    explicit View(Grid &&grid) { check(vdb_view_new(grid.grid_.changed(), view_.changed())); }
 
     // Returns another view of the same grid, for another thread. The last view frees the grid.
     View share() const
     {
         View made;
-        check(vdb_view_share(&view_, &made.view_));
+        check(vdb_view_share(view_.handle(), made.view_.changed()));
         return made;
     }
 
@@ -751,25 +834,25 @@ public:
     Grid copy() const
     {
         Grid made;
-        check(vdb_view_copy(&view_, &made.grid_));
+        check(vdb_view_copy(view_.handle(), made.grid_.changed()));
         return made;
     }
 
     // Returns the handle, for calls of vdb.h. This object still owns it.
-    vdb_view *handle() { return &view_; }
+    vdb_view *handle() { return view_.lent(); }
 
     Cell get(Coord at) const
     {
         int64_t value = 0;
         int32_t active = 0;
-        check(vdb_view_get(&view_, at.x, at.y, at.z, &value, &active));
+        check(vdb_view_get(view_.handle(), at.x, at.y, at.z, &value, &active));
         return {value, active != 0};
     }
 
     // Reads many voxels, or a box, as Grid does.
     void get_many(Span<const Coord> at, Span<int64_t> values, Span<uint8_t> states = {}) const
     {
-        check(vdb_view_get_many(&view_, detail::data_of(at), at.size(), detail::data_of(values), values.size(), detail::data_of(states),
+        check(vdb_view_get_many(view_.handle(), detail::data_of(at), at.size(), detail::data_of(values), values.size(), detail::data_of(states),
                                 states.size()));
     }
     template <typename T = int64_t> void read_box(const Box &box, detail::SpanOf<T> values, Span<uint8_t> states = {}) const
@@ -779,51 +862,51 @@ public:
     template <typename T = int64_t>
     void read_box(const Box &box, const Strides &strides, detail::SpanOf<T> values, Span<uint8_t> states = {}) const
     {
-        detail::read_box<T>(&view_, vdb_view_read_box, vdb_view_read_box_bool, vdb_view_read_box_i32, box, strides, values, states);
+        detail::read_box<T>(view_.handle(), vdb_view_read_box, vdb_view_read_box_bool, vdb_view_read_box_i32, box, strides, values, states);
     }
 
     // The reports and walks of Grid.
     Kind kind() const
     {
         int32_t kind = 0;
-        check(vdb_view_kind(&view_, &kind));
+        check(vdb_view_kind(view_.handle(), &kind));
         return static_cast<Kind>(kind);
     }
     int64_t background() const
     {
         int64_t value = 0;
-        check(vdb_view_background(&view_, &value));
+        check(vdb_view_background(view_.handle(), &value));
         return value;
     }
     uint32_t limit() const
     {
         uint32_t limit = 0;
-        check(vdb_view_limit(&view_, &limit));
+        check(vdb_view_limit(view_.handle(), &limit));
         return limit;
     }
     uint64_t count(const Box &box = everywhere) const
     {
         vdb_count count = {0, 0};
-        check(vdb_view_count_in(&view_, &box, &count));
+        check(vdb_view_count_in(view_.handle(), &box, &count));
         return detail::whole(count);
     }
     std::optional<Box> bounds() const
     {
         Box box = everywhere;
         int32_t found = 0;
-        check(vdb_view_bounds(&view_, &box, &found));
+        check(vdb_view_bounds(view_.handle(), &box, &found));
         return found ? std::optional<Box>(box) : std::nullopt;
     }
     Census census() const
     {
         Census census = {0, 0, 0, 0};
-        check(vdb_view_census(&view_, &census));
+        check(vdb_view_census(view_.handle(), &census));
         return census;
     }
     uint64_t leaf_count() const
     {
         uint64_t count = 0;
-        check(vdb_view_leaf_count(&view_, &count));
+        check(vdb_view_leaf_count(view_.handle(), &count));
         return count;
     }
     LeavesOf<View> leaves() const & { return LeavesOf<View>(*this); }
@@ -847,25 +930,16 @@ private:
 
     View() = default;
 
-    vdb_view *shared() const { return &view_; }
+    vdb_view *shared() const { return view_.handle(); }
+    uint64_t changes() const { return view_.changes(); }
 
-    mutable vdb_view view_ = VDB_VIEW_INIT;
+    detail::Held<vdb_view, vdb_view_free> view_;
 };
 
 // A scene. The comments of vdb.h describe each call.
 class Scene {
 public:
-    Scene() { check(vdb_scene_new(&scene_)); }
-    Scene(Scene &&other) noexcept : scene_(std::exchange(other.scene_, vdb_scene VDB_SCENE_INIT)) {}
-    Scene &operator=(Scene &&other) noexcept
-    {
-        if (this != &other) {
-            vdb_scene_free(&scene_);
-            scene_ = std::exchange(other.scene_, vdb_scene VDB_SCENE_INIT);
-        }
-        return *this;
-    }
-    ~Scene() { vdb_scene_free(&scene_); }
+    Scene() { check(vdb_scene_new(scene_.changed())); }
 
     // Reads a scene file.
     static Scene load_file(const std::string &path) { return from_bytes(detail::read(path, VDB_FILE_MOST + 1), path); }
@@ -875,7 +949,7 @@ public:
     {
         static const uint8_t none = 0;
         Scene made;
-        check(vdb_scene_load(&made.scene_, bytes.empty() ? &none : bytes.data(), bytes.size()), file);
+        check(vdb_scene_load(made.scene_.changed(), bytes.empty() ? &none : bytes.data(), bytes.size()), file);
         return made;
     }
 
@@ -887,26 +961,26 @@ public:
     std::vector<uint8_t> to_bytes(const std::string &file = "") const
     {
         uint64_t length = 0;
-        check(vdb_scene_length(&scene_, &length), file);
+        check(vdb_scene_length(scene_.handle(), &length), file);
         if (length > VDB_FILE_MOST)
             throw Error(VDB_FILE_TOO_LONG, file);
         std::vector<uint8_t> bytes(length);
-        check(vdb_scene_save(&scene_, bytes.data(), bytes.size(), &length), file);
+        check(vdb_scene_save(scene_.handle(), bytes.data(), bytes.size(), &length), file);
         return bytes;
     }
 
     // Returns the handle, for calls of vdb.h. This object still owns it.
-    vdb_scene *handle() { return &scene_; }
+    vdb_scene *handle() { return scene_.lent(); }
 
     // Returns the names of the grids, in order.
     std::vector<std::string> names() const
     {
         uint64_t count = 0, used = 0;
-        check(vdb_scene_count(&scene_, &count));
+        check(vdb_scene_count(scene_.handle(), &count));
         std::vector<std::string> names;
         for (uint64_t index = 0; index < count; index++) {
             char name[VDB_NAME_MOST] = {};
-            check(vdb_scene_name(&scene_, index, name, sizeof name, &used));
+            check(vdb_scene_name(scene_.handle(), index, name, sizeof name, &used));
             names.emplace_back(name, used);
         }
         return names;
@@ -916,14 +990,14 @@ public:
     bool contains(std::string_view name) const
     {
         uint64_t count = 0;
-        const int32_t code = vdb_scene_meta_count(&scene_, detail::bytes_of(name), name.size(), &count);
+        const int32_t code = vdb_scene_meta_count(scene_.handle(), detail::bytes_of(name), name.size(), &count);
         if (code != VDB_NO_GRID && code != VDB_NAME)
             check(code);
         return code == VDB_OK;
     }
 
     // Moves a grid into the scene and leaves `grid` empty.
-    void put(std::string_view name, Grid &&grid) { check(vdb_scene_put(&scene_, detail::bytes_of(name), name.size(), &grid.grid_)); }
+    void put(std::string_view name, Grid &&grid) { check(vdb_scene_put(scene_.handle(), detail::bytes_of(name), name.size(), grid.grid_.changed())); }
 
     // Moves a grid with metadata pairs into the scene. If it throws, it moves the grid back to `grid`; if memory is too short for that,
     // the grid stays in the scene.
@@ -943,14 +1017,14 @@ public:
     // stay. `use` must neither move the grid away nor use the scene, which has an empty grid of that name during the call.
     template <typename Use> decltype(auto) edit(std::string_view name, Use &&use)
     {
-        Lent lent(scene_, name);
+        Lent lent(scene_.handle(), name);
         return std::forward<Use>(use)(lent.grid);
     }
 
     // Calls `use` with a grid of the scene to read, otherwise as `edit` does.
     template <typename Use> decltype(auto) read(std::string_view name, Use &&use) const
     {
-        const Lent lent(scene_, name);
+        const Lent lent(scene_.handle(), name);
         return std::forward<Use>(use)(lent.grid);
     }
 
@@ -958,7 +1032,7 @@ public:
     Grid take(std::string_view name)
     {
         Grid grid;
-        check(vdb_scene_take(&scene_, detail::bytes_of(name), name.size(), &grid.grid_));
+        check(vdb_scene_take(scene_.handle(), detail::bytes_of(name), name.size(), grid.grid_.changed()));
         return grid;
     }
 
@@ -966,7 +1040,7 @@ public:
     Grid copy(std::string_view name) const
     {
         Grid grid;
-        check(vdb_scene_copy(&scene_, detail::bytes_of(name), name.size(), &grid.grid_));
+        check(vdb_scene_copy(scene_.handle(), detail::bytes_of(name), name.size(), grid.grid_.changed()));
         return grid;
     }
 
@@ -974,13 +1048,13 @@ public:
     std::map<std::string, std::string> metadata(std::string_view name) const
     {
         uint64_t count = 0, used = 0;
-        check(vdb_scene_meta_count(&scene_, detail::bytes_of(name), name.size(), &count));
+        check(vdb_scene_meta_count(scene_.handle(), detail::bytes_of(name), name.size(), &count));
         std::map<std::string, std::string> pairs;
         for (uint64_t index = 0; index < count; index++) {
             char key[VDB_NAME_MOST] = {}, text[VDB_TEXT_MOST] = {};
-            check(vdb_scene_meta_key(&scene_, detail::bytes_of(name), name.size(), index, key, sizeof key, &used));
+            check(vdb_scene_meta_key(scene_.handle(), detail::bytes_of(name), name.size(), index, key, sizeof key, &used));
             const std::string found(key, used);
-            check(vdb_scene_meta_text(&scene_, detail::bytes_of(name), name.size(), index, text, sizeof text, &used));
+            check(vdb_scene_meta_text(scene_.handle(), detail::bytes_of(name), name.size(), index, text, sizeof text, &used));
             pairs.emplace(found, std::string(text, used));
         }
         return pairs;
@@ -988,18 +1062,18 @@ public:
 
     void set_metadata(std::string_view name, std::string_view key, std::string_view text)
     {
-        check(vdb_scene_meta_set(&scene_, detail::bytes_of(name), name.size(), detail::bytes_of(key), key.size(), detail::bytes_of(text),
+        check(vdb_scene_meta_set(scene_.handle(), detail::bytes_of(name), name.size(), detail::bytes_of(key), key.size(), detail::bytes_of(text),
                                  text.size()));
     }
     void remove_metadata(std::string_view name, std::string_view key)
     {
-        check(vdb_scene_meta_remove(&scene_, detail::bytes_of(name), name.size(), detail::bytes_of(key), key.size()));
+        check(vdb_scene_meta_remove(scene_.handle(), detail::bytes_of(name), name.size(), detail::bytes_of(key), key.size()));
     }
 
 private:
     // A grid taken out of a scene until this object ends. Putting it back allocates nothing.
     struct Lent {
-        Lent(vdb_scene &scene, std::string_view name) : scene_(scene), name_(name) { check(swap()); }
+        Lent(vdb_scene *scene, std::string_view name) : scene_(scene), name_(name) { check(swap()); }
         Lent(const Lent &) = delete;
         Lent &operator=(const Lent &) = delete;
         ~Lent()
@@ -1007,16 +1081,16 @@ private:
             if (swap() != VDB_OK)
                 std::terminate(); // the grid was moved away, or the scene changed
         }
-        int32_t swap() { return vdb_scene_swap(&scene_, detail::bytes_of(name_), name_.size(), &grid.grid_); }
+        int32_t swap() { return vdb_scene_swap(scene_, detail::bytes_of(name_), name_.size(), grid.grid_.changed()); }
 
         Grid grid = Grid(Kind::boolean, 0, 1);
 
     private:
-        vdb_scene &scene_;
+        vdb_scene *const scene_;
         const std::string_view name_;
     };
 
-    mutable vdb_scene scene_ = VDB_SCENE_INIT;
+    detail::Held<vdb_scene, vdb_scene_free> scene_;
 };
 
 } // namespace vdb
