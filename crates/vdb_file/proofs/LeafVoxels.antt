@@ -1,5 +1,5 @@
 -- The voxels of a leaf that aren't the background.
-use Rattle.vdb_file.proofs.Common.{◌≡◌, ℕ, suc, ◌+◌, ◌-◌, ◌<◌, ◌≤◌, Bool, true, false, not, List, ◌++◌, arith, refl, sym, ap, subst, ◌∙◌, length, length-append, length-take-le, take, take-take, put_mid, ◌↔◌, IfSome, Option, Some, None, w16, to_be_bytes, block_around, block_number, entries, offset, AreBits, Box, everywhere, is_inside, Bits, Coord, Level, Leaf, block_in_range, number_of_corner, corner_inside, corner_of_entry, in_entry, number_in_block, voxel_from_leaf, entry_count, Field, off, Layout, field_of, cell_exact, cell_same, uniform_cells, uniform_from, IsConstantLeaf, cell_in, cell_eq, is_background, is_constant, Cell, cell_bytes, listed, voxel_body, Puts, Sent, numbered, passing}
+use Rattle.vdb_file.proofs.Common.{◌≡◌, ℕ, ◌+◌, ◌*◌, ◌-◌, ◌<◌, ◌≤◌, Bool, true, false, not, List, ◌++◌, drop, length-drop, arith, refl, sym, ap, subst, ◌∙◌, length, length-take-le, take, take-take, put_mid, same_len_mid, ◌↔◌, IfSome, Option, Some, None, w16, to_be_bytes, block_around, block_number, entries, offset, AreBits, Box, everywhere, is_inside, Bits, Coord, Level, Leaf, block_in_range, number_of_corner, corner_inside, corner_of_entry, in_entry, number_in_block, voxel_from_leaf, entry_count, Field, off, Layout, field_of, cell_exact, cell_same, uniform_cells, uniform_from, IsConstantLeaf, cell_in, cell_eq, is_background, is_constant, Cell, cell_bytes, listed, voxel_body, Puts, Sent, numbered, passing}
 use Rattle.std.proofs.lemmas.Slice.{take-put_mid}
 use Rattle.std.proofs.Math.Seq.{take-append-add}
 use Rattle.std.specs.Prelude.{is_some}
@@ -36,20 +36,6 @@ module _ {V : Type 0} (eq : V → V → Bool) (leaf : LeafOf V) (d background : 
     voxel_left h =
         so_far ∙ ap (numbered (λ k. cell_bytes eq value_bytes (cell_in d leaf k))) (sym (passing_out stands i (ap (λ (x : Cell V). not (cell_eq eq x background)) at ∙ h)))
 
-  -- the same by the numbers of bytes
-  module _ (value_bytes : V → List ℕ) (i len : ℕ) (cell : Cell V) (at : cell_in d leaf i ≡ cell)
-      (so_far : len ≡ length (numbered (λ k. cell_bytes eq value_bytes (cell_in d leaf k)) (passing stands i))) where
-    pub bytes_counted : (size : ℕ) → length (value_bytes cell.value) ≡ size → not (cell_eq eq cell background) ≡ true → len + (3 + size) ≡ length (numbered (λ k. cell_bytes eq value_bytes (cell_in d leaf k)) (passing stands (i + 1)))
-    bytes_counted size long h =
-        let front = numbered (λ k. cell_bytes eq value_bytes (cell_in d leaf k)) (passing stands i) in
-        let whole = ap length (voxel_added value_bytes i cell at front refl h) in
-        let parts = length-append front (to_be_bytes w16 i ++ cell_bytes eq value_bytes cell) in
-        let last : length (to_be_bytes w16 i ++ cell_bytes eq value_bytes cell) ≡ suc (suc (suc (length (value_bytes cell.value)))) = refl in
-        omega (arith, so_far, whole, parts, last, long)
-
-    pub bytes_passed : not (cell_eq eq cell background) ≡ false → len ≡ length (numbered (λ k. cell_bytes eq value_bytes (cell_in d leaf k)) (passing stands (i + 1)))
-    bytes_passed h = so_far ∙ ap length (voxel_left value_bytes i cell at (numbered (λ k. cell_bytes eq value_bytes (cell_in d leaf k)) (passing stands i)) refl h)
-
 -- a part of a row was written, and its first bytes are kept
 pub part_kept : (k : ℕ) (xs ys front bytes : List ℕ) (a s : ℕ) → a + k ≤ length xs → length ys ≡ k → s ≤ k → take a xs ≡ front → take s ys ≡ bytes → take (a + s) (put_mid a (a + k - a) xs ys) ≡ front ++ bytes
 part_kept k xs ys front bytes a s fits long few before here =
@@ -60,6 +46,55 @@ part_kept k xs ys front bytes a s fits long few before here =
     ∙ take-append-add (take a xs) ys s
     ∙ ap (λ (l : List ℕ). l ++ take s ys) before
     ∙ ap (λ (l : List ℕ). front ++ l) here
+
+-- a part of a row has as many bytes as are written to it
+grown : (k a : ℕ) (xs ys : List ℕ) → a + k ≤ length xs → length ys ≡ k → length ys ≡ length (take (a + k - a) (drop a xs))
+grown k a xs ys fits long = let cut = length-take-le (a + k - a) (drop a xs) (omega (arith, length-drop a xs, fits)) in omega (arith, cut, long)
+
+-- the first n voxels of a leaf that aren't the background are counted, and encoded in the first bytes of a row
+pub record AreEncoded {V : Type 0} (eq : V → V → Bool) (value_bytes : V → List ℕ) (leaf : LeafOf V) (background : Cell V) (n len m : ℕ) (row : List ℕ) : Type 0 where
+  pub few : len ≤ 11 * n
+  pub long : length row ≡ 5643
+  pub count : (d : Cell V) → m ≡ length (passing (stands eq leaf d background) n)
+  pub bytes : (d : Cell V) → take len row ≡ numbered (λ k. cell_bytes eq value_bytes (cell_in d leaf k)) (passing (stands eq leaf d background) n)
+
+-- a voxel's value and its state are its cell
+pub cell_from : {V : Type 0} (leaf : LeafOf V) (i : ℕ) (d : Cell V) (value : V) (on : Bool) → (cell_in d leaf i).value ≡ value → (cell_in d leaf i).on ≡ on → cell_in d leaf i ≡ record { value = value; on = on }
+cell_from leaf i d value on v s = λ j. record { value = v j; on = s j }
+
+module _ {V : Type 0} (eq : V → V → Bool) (value_bytes : V → List ℕ) (leaf : LeafOf V) (background : Cell V) where
+  -- at first none is
+  pub none_encoded : (n : ℕ) → n ≡ 0 → (row : List ℕ) → length row ≡ 5643 → AreEncoded eq value_bytes leaf background n 0 0 row
+  none_encoded n none row long =
+      subst (λ (k : ℕ). AreEncoded eq value_bytes leaf background k 0 0 row) (sym none) (record { few = omega arith; long = long; count = λ d. refl; bytes = λ d. refl })
+
+  -- one voxel more, after the first i
+  module _ (i next len m : ℕ) (row : List ℕ) (step : next ≡ i + 1) (so_far : AreEncoded eq value_bytes leaf background i len m row) (cell : Cell V) (at : (d : Cell V) → cell_in d leaf i ≡ cell) where
+    pub one_passed : not (cell_eq eq cell background) ≡ false → AreEncoded eq value_bytes leaf background next len m row
+    one_passed h =
+        subst (λ (n : ℕ). AreEncoded eq value_bytes leaf background n len m row) (sym step)
+        (record {
+          few = let few = so_far.few in omega (arith, few);
+          long = so_far.long;
+          count = λ d. voxel_passed eq leaf d background i m cell (at d) h (so_far.count d);
+          bytes = λ d. voxel_left eq leaf d background value_bytes i cell (at d) (take len row) (so_far.bytes d) h;
+        })
+
+    pub one_encoded : (size : ℕ) (bytes : List ℕ) → i < 512 → not (cell_eq eq cell background) ≡ true → length bytes ≡ 11 → size ≤ 11 → take size bytes ≡ to_be_bytes w16 i ++ cell_bytes eq value_bytes cell
+        → AreEncoded eq value_bytes leaf background next (len + size) (m + 1) (put_mid len (len + 11 - len) row bytes)
+    one_encoded size bytes less h whole fits same =
+        let few = so_far.few in
+        let long = so_far.long in
+        let start : len + 11 ≤ length row = omega (arith, few, long, less) in
+        subst (λ (n : ℕ). AreEncoded eq value_bytes leaf background n (len + size) (m + 1) (put_mid len (len + 11 - len) row bytes)) (sym step)
+        (record {
+          few = omega (arith, few, fits);
+          long = same_len_mid len (len + 11 - len) row bytes (grown 11 len row bytes start whole) ∙ long;
+          count = λ d. voxel_counted eq leaf d background i m cell (at d) h (so_far.count d);
+          bytes = λ d.
+              part_kept 11 row bytes (take len row) (to_be_bytes w16 i ++ cell_bytes eq value_bytes cell) len size start whole fits refl same
+              ∙ voxel_added eq leaf d background value_bytes i cell (at d) (take len row) (so_far.bytes d) h;
+        })
 
 -- ---- the leaf of a tree, or none
 

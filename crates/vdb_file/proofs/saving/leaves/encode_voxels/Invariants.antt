@@ -1,12 +1,11 @@
-use Rattle.vdb_file.proofs.Common.{◌≡◌, ◌≤◌, ◌*◌, length, take, cell_in, Cell, cell_bytes, numbered, passing}
-use Rattle.vdb_file.proofs.LeafVoxels.{stands}
+use Rattle.vdb_file.proofs.Common.{◌+◌, ◌*◌}
+use Rattle.vdb_file.proofs.LeafVoxels.{AreEncoded}
 use Rattle.vdb_file.proofs.saving.leaves.encode_voxels.Given as goal
 
--- the voxels passed that aren't the background are counted and encoded
-abbrev pub invariant-loop-i : goal.invariant-loop-i
-invariant-loop-i g l = record {
-  few : l.len ≤ 11 * l.i;
-  long : length l.bytes ≡ 5643;
-  count : (d : Cell g.row.V.Denot) → l.count ≡ length (passing (stands g.V.PartialEq.eq l.leaf d l.background) l.i);
-  bytes : (d : Cell g.row.V.Denot) → take l.len l.bytes ≡ numbered (λ k. cell_bytes g.V.PartialEq.eq g.V.Voxel.bytes_of (cell_in d l.leaf k)) (passing (stands g.V.PartialEq.eq l.leaf d l.background) l.i);
-}
+-- the voxels of the rows passed are encoded
+abbrev pub invariant-rows : goal.invariant-rows
+invariant-rows g l = AreEncoded g.V.PartialEq.eq g.V.Voxel.bytes_of l.leaf l.background (64 * l.k) l.len l.count l.bytes
+
+-- and those before this one in its row
+abbrev pub invariant-row : goal.invariant-row
+invariant-row g l = AreEncoded g.V.PartialEq.eq g.V.Voxel.bytes_of l.leaf l.background (64 * l.k + l.j) l.len l.count l.bytes
