@@ -1,6 +1,7 @@
 //! Writes the cells, voxels and leaf extents of a tree.
 
-ghost use Rattle.std.specs.Prelude.{◌≡◌, ◌≤◌, ◌*◌, ◌%◌, if◌then◌else◌, ◌∷◌, ◌++◌, ◌||◌, true, not, is_err, is_some, length, take, IfSome, IsOk, OnOk};
+ghost use Rattle.std.specs.Prelude.{◌≡◌, ◌≤◌, ◌*◌, ◌%◌, if◌then◌else◌, ◌∷◌, ◌++◌, ◌||◌, true, false, not, is_err, is_some, length, take, IfSome, IsOk, IsTrue, OnOk};
+ghost use Rattle.std.proofs.Math.Bool.{beq};
 ghost use Rattle.std.specs.Int.{w16, to_be_bytes};
 ghost use Rattle.vdb_coord.specs.Blocks.{block, block_around, entries, sub_block, vdb};
 ghost use Rattle.vdb_coord.specs.declared.Level.TheVariants.{Leaf as leaf_level};
@@ -180,6 +181,15 @@ fn put_voxel<V: Voxel>(bytes: &mut [u8], i: u16, cell: Cell<V>) -> usize
     3 + count
 }
 
+/// Returns whether a cell isn't the background. If `other` says that its state is another one, no value is compared.
+#[inline(always)]
+fn is_unlike<V: Voxel>(other: bool, cell: Cell<V>, background: Cell<V>) -> bool
+    requires { IsTrue other → beq cell.on background.on ≡ false }
+    ensures { result ≡ not (cell_eq V.eq cell background) }
+{
+    other || cell != background
+}
+
 /// Encodes those of the first voxels of a leaf that aren't the background, each after its number. Returns how many bytes and how
 /// many voxels these are. It reads 64 voxels at a time, whose states are one word.
 #[inline(always)]
@@ -192,12 +202,14 @@ fn encode_voxels<V: Stored<8>>(
     requires within { n ≤ entry_count 3 }
     requires few { n ≤ 512 }
     requires rows { n % 64 ≡ 0 }
+    requires inactive { background.on ≡ false }
     ensures few { result.0 ≤ VOXEL * n }
     ensures count { (d : Cell V) → result.1 ≡ length (passing (λ i. not (cell_eq V.eq (cell_in d leaf.now i) background)) n) }
     ensures bytes { (d : Cell V) → take result.0 bytes.new
         ≡ numbered (λ i. cell_bytes V.eq V.bytes_of (cell_in d leaf.now i)) (passing (λ i. not (cell_eq V.eq (cell_in d leaf.now i) background)) n) }
 {
     let states = leaf.states();
+    let all = states.all_on();
     let mut len = 0;
     let mut count = 0;
     'rows: for k in 0..n / 64 {
@@ -209,7 +221,7 @@ fn encode_voxels<V: Stored<8>>(
                 value: values[j as usize],
                 on: states.test(i),
             };
-            if cell != background {
+            if is_unlike(all, cell, background) {
                 len += put_voxel(&mut bytes[len..len + VOXEL], i as u16, cell);
                 count += 1;
             }

@@ -1,10 +1,10 @@
-use Rattle.vdb_file.proofs.Common.{arith, ◌≡◌, ◌<◌, ◌∙◌, ℕ, ◌+◌, ◌*◌, rules, sym, subst, ap, List, Bool, length, cell_in, Cell, cell_bytes, numbered, passing}
+use Rattle.vdb_file.proofs.Common.{arith, ◌≡◌, ◌<◌, ◌∙◌, ℕ, ◌+◌, ◌*◌, rules, sym, subst, ap, List, Bool, true, beq, length, cell_in, Cell, cell_bytes, numbered, passing}
 use Rattle.std.specs.Prelude.{slice_index_or}
 use Rattle.vdb_mask.specs.Mask.{is_on}
 use Rattle.vdb_file.proofs.LeafVoxels.{AreEncoded, cell_from, none_encoded, one_encoded, one_passed, stands}
 use Rattle.vdb_file.proofs.Passing.{passing_few}
 use Rattle.vdb_file.proofs.saving.leaves.encode_voxels.Goals as goal
-use Rattle.vdb_file.proofs.saving.leaves.encode_voxels.Goals.{then-ne, else-ne}
+use Rattle.vdb_file.proofs.saving.leaves.encode_voxels.Goals.{then-is_unlike, else-is_unlike}
 
 pub rows-init : goal.rows-init
 rows-init g c = none_encoded g.V.PartialEq.eq g.V.Voxel.bytes_of c.args.leaf.now c.args.background 0 (omega arith) c.args.bytes.now c.told-bytes
@@ -23,6 +23,15 @@ overflow_add-count g c =
     let most = c.requires.few in
     omega (arith, few, counted, row, less, most)
 
+pub is_unlike-requires : goal.is_unlike-requires
+is_unlike-requires g c told =
+    let h = c.row-test.true in
+    let k = c.rows-test.true in
+    let most = c.requires.few in
+    let i = 64 * c.rows.k + c.row.j in
+    let on : is_on c.states-states.result.now i ≡ true = c.all_on-all.ensures.0 told i (omega (arith, h, k, most)) in
+    ap (λ (b : Bool). beq b c.args.background.on) (sym c.test.ensures ∙ on) ∙ ap (beq true) c.requires.inactive
+
 pub row-preserved : goal.row-preserved
 row-preserved g c =
     let eq = g.V.PartialEq.eq in
@@ -40,13 +49,13 @@ row-preserved g c =
     let at : (d : Cell g.row.V.Denot) → cell_in d leaf i ≡ record { value = value; on = c.test.result } =
     λ d. cell_from leaf i d value c.test.result (sym (c.copy_values.ensures.values d c.row.j read (first_of (omega (arith, h), search (rules, h)))))
     (ap (λ (m : List Bool). is_on m i) (sym c.states-states.ensures.same) ∙ c.test.ensures) in
-    elim c.if-ne.branch [
-      | then-ne w ↦
+    elim c.if-is_unlike.branch [
+      | then-is_unlike w ↦
           let put = w.put_voxel-len in
           rw (w.len-is, w.count-is, w.bytes-is)
-          (one_encoded eq bytes leaf c.args.background i next c.row.len c.row.count c.row.bytes step c.row.invariant _ at put.result put.new.bytes less (sym c.ne.ensures ∙ w.if-ne.true) put.ensures.length put.ensures.few put.ensures.bytes)
-      | else-ne w ↦
-          rw (w.len-is, w.count-is, w.bytes-is) (one_passed eq bytes leaf c.args.background i next c.row.len c.row.count c.row.bytes step c.row.invariant _ at (sym c.ne.ensures ∙ w.if-ne.false))
+          (one_encoded eq bytes leaf c.args.background i next c.row.len c.row.count c.row.bytes step c.row.invariant _ at put.result put.new.bytes less (sym c.is_unlike.ensures ∙ w.if-is_unlike.true) put.ensures.length put.ensures.few put.ensures.bytes)
+      | else-is_unlike w ↦
+          rw (w.len-is, w.count-is, w.bytes-is) (one_passed eq bytes leaf c.args.background i next c.row.len c.row.count c.row.bytes step c.row.invariant _ at (sym c.is_unlike.ensures ∙ w.if-is_unlike.false))
     ]
 
 pub rows-preserved : goal.rows-preserved

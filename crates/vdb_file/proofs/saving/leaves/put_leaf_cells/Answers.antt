@@ -1,4 +1,4 @@
-use Rattle.vdb_file.proofs.Common.{◌≡◌, ◌∙◌, ℕ, arith, ap, sym, length, rules, on_ok_weaker, block_around, entries, vdb, Leaf, fits_everywhere, off, field_of, exact_by, voxel_body}
+use Rattle.vdb_file.proofs.Common.{◌≡◌, ◌∙◌, ℕ, arith, ap, refl, sym, length, rules, on_ok_weaker, block_around, entries, vdb, Leaf, fits_everywhere, off, field_of, exact_by, voxel_body}
 use Rattle.std.proofs.Common.{◌%◌}
 use Rattle.vdb_file.proofs.LeafVoxels.{listed_voxels, voxels_put}
 use Rattle.vdb_file.proofs.Outputs.{puts_same}
@@ -9,7 +9,7 @@ use Rattle.vdb_file.proofs.saving.leaves.put_leaf_cells.Goals as goal
 pub encode_voxels-len-requires : goal.encode_voxels-len-requires
 encode_voxels-len-requires g c =
     let count : c.from-n.result ≡ entries vdb Leaf = c.from-n.ensures ∙ c.entries.ensures in
-    record { within = omega (arith, count); few = omega (arith, count); rows = ap (λ (n : ℕ). n % 64) count }
+    record { within = omega (arith, count); few = omega (arith, count); rows = ap (λ (n : ℕ). n % 64) count; inactive = refl }
 
 pub returns-clause-puts : goal.returns-clause-puts
 returns-clause-puts g c =
