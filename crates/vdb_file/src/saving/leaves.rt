@@ -209,12 +209,12 @@ fn encode_voxels<V: Stored<8>>(
         ≡ numbered (λ i. cell_bytes V.eq V.bytes_of (cell_in d leaf.now i)) (passing (λ i. not (cell_eq V.eq (cell_in d leaf.now i) background)) n) }
 {
     let states = leaf.states();
-    let all = states.all_on();
     let mut len = 0;
     let mut count = 0;
     'rows: for k in 0..n / 64 {
         let mut values = [background.value; 64];
         leaf.copy_values(64 * k, &mut values);
+        let all = states.word(k) == u64::MAX;
         'row: for j in 0..64u32 {
             let i = 64 * k + j;
             let cell = Cell {

@@ -1,6 +1,9 @@
-use Rattle.vdb_file.proofs.Common.{arith, ◌≡◌, ◌<◌, ◌∙◌, ℕ, ◌+◌, ◌*◌, rules, sym, subst, ap, List, Bool, true, beq, length, cell_in, Cell, cell_bytes, numbered, passing}
+use Rattle.vdb_file.proofs.Common.{arith, ◌≡◌, ◌<◌, ◌∙◌, ℕ, ◌+◌, ◌*◌, ◌-◌, ◌^◌, rules, sym, subst, ap, List, Bool, true, beq, length, cell_in, Cell, cell_bytes, numbered, passing}
 use Rattle.std.specs.Prelude.{slice_index_or}
-use Rattle.vdb_mask.specs.Mask.{is_on}
+use Rattle.std.proofs.Common.{◌==◌}
+use Rattle.std.proofs.lemmas.Bool.{eqb-true}
+use Rattle.std.proofs.lemmas.Nat.Bits.{bit_at_ones}
+use Rattle.vdb_mask.specs.Mask.{has_bit, is_on}
 use Rattle.vdb_file.proofs.LeafVoxels.{AreEncoded, cell_from, none_encoded, one_encoded, one_passed, stands}
 use Rattle.vdb_file.proofs.Passing.{passing_few}
 use Rattle.vdb_file.proofs.saving.leaves.encode_voxels.Goals as goal
@@ -26,10 +29,8 @@ overflow_add-count g c =
 pub is_unlike-requires : goal.is_unlike-requires
 is_unlike-requires g c told =
     let h = c.row-test.true in
-    let k = c.rows-test.true in
-    let most = c.requires.few in
-    let i = 64 * c.rows.k + c.row.j in
-    let on : is_on c.states-states.result.now i ≡ true = c.all_on-all.ensures.0 told i (omega (arith, h, k, most)) in
+    let whole : c.word-all.result ≡ 2 ^ 64 - 1 = eqb-true c.word-all.result (2 ^ 64 - 1) told in
+    let on : is_on c.states-states.result.now (64 * c.rows.k + c.row.j) ≡ true = c.word-all.ensures c.row.j h ∙ ap (λ w. has_bit w c.row.j) whole ∙ ap (λ (n : ℕ). n == 1) (bit_at_ones 64 c.row.j h) in
     ap (λ (b : Bool). beq b c.args.background.on) (sym c.test.ensures ∙ on) ∙ ap (beq true) c.requires.inactive
 
 pub row-preserved : goal.row-preserved
