@@ -177,15 +177,16 @@ class FormatError(VdbError, ValueError):
 
 
 class MagicFault(FormatError):
-    """The first four bytes aren't `VDBS`. If the file has the ending of an image, the text says what reads it."""
+    """The first four bytes aren't `VDBS`. The text says what they are, and what reads the file if it is an image by them or its ending."""
 
     fault = "magic"
 
     def __str__(self) -> str:
-        from .formats import FORMATS
+        from .formats import FORMATS, signature_of
 
-        is_image = (self.path or "").lower().endswith((*FORMATS,))
-        return super().__str__() + ". For an image use vdb.formats.load, or vdb-scene convert IMAGE x.vdbs" * is_image
+        told, endings = signature_of(self.path) if self.path else ("", ())
+        is_image = (self.path or "").lower().endswith((*FORMATS,)) or any(ending in FORMATS for ending in endings)
+        return f"{super().__str__()}{told}" + ". For an image use vdb.formats.load, or vdb-scene convert IMAGE x.vdbs" * is_image
 
 
 class VersionFault(FormatError):

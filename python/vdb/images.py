@@ -6,7 +6,7 @@
     image_array                   the dtype of the file and the sides in voxels: uint8,256,256,128
     image_low                     the coordinate of the first voxel: 0,0,-20                                    at 0,0,0
     image_units                   the unit of the world: mm, or one for each axis: mm,mm,um                     if not known
-    image_space                   NRRD's name of the world's axes: left-posterior-superior                      if not known
+    image_space                   NRRD's name of the world's axes: left-posterior-superior                      if not known, or RAS
     image_nifti                   codes of NIfTI's sform, qform and unit of time, and its version: 4,1,8,2      for 2,0,0 of version 1
     image_intent                  code and parameters of NIfTI's intent: 1002, or 3,10.5                        without an intent
     image_name                    the intent's name; bytes other than letters, digits and _.- as %20            without one
@@ -14,6 +14,7 @@
     image_shift                   the qform's offset x, y, z: 90,-126,-72                                       if the affine gives it
     image_sizes                   the voxel sizes of the header: 1,1,2.5                                        if the affine gives them
 
+With the identity, RAS and the codes 2,0,0 are kept: only they say that it is an affine of a body.
 A number has all its digits, unless a row has no room for them. A grid with rows and without `image_array` has a place in the world, but
 no image. One with `image_array` and without rows is an image whose affine is the identity. Only `Volume.affine` and
 `Image.index_affine` map INDICES of an array.
@@ -29,6 +30,8 @@ import numpy as np
 from .errors import GeometryError, VolumeError
 from .forms import Bounds, Coordinate, Metadata, check_coordinate
 
+#: The texts of notes that say no more than the rows of an affine.
+USUAL = {"image_nifti": "2,0,0", "image_space": "right-anterior-superior"}
 #: The keys of the three rows of an affine.
 ROWS = ("affine_x", "affine_y", "affine_z")
 ARRAY, LOW = "image_array", "image_low"
@@ -101,7 +104,9 @@ class Image:
     def pairs(self) -> Dict[str, str]:
         """Returns the pairs that keep the image. Raises VolumeError if the affine has no inverse."""
         low = {LOW: ",".join(map(str, self.low))} if any(self.low) else {}
-        return {**rows_of(self.affine), ARRAY: ",".join([self.dtype.name, *map(str, self.shape)]), **low, **self.notes}
+        rows = rows_of(self.affine)
+        notes = {key: text for key, text in self.notes.items() if not rows or text != USUAL.get(key)}
+        return {**rows, ARRAY: ",".join([self.dtype.name, *map(str, self.shape)]), **low, **notes}
 
     def keep(self, metadata: Metadata) -> None:
         """Puts the pairs in place of those of another image. Raises VolumeError if the affine has no inverse, and LimitError if there is no
@@ -140,9 +145,9 @@ def agreed(first: Metadata, second: Pairs, dtype: np.dtype) -> Metadata:
     return made
 
 
-def check_same(first: Pairs, second: Pairs) -> None:
-    """Raises GeometryError, which names what differs, if two grids with images, or with affines, have different ones. An image without the
-    pairs of an affine has the identity."""
+def check_same(first: Pairs, second: Pairs, instead: str = "ignore_geometry=True combines them all the same") -> None:
+    """Raises GeometryError, which names what differs and what to do instead, if two grids with images, or with affines, have different ones.
+    An image without the pairs of an affine has the identity."""
     one, other = Image.of(first), Image.of(second)
     told = []
     if one and other:
@@ -155,7 +160,7 @@ def check_same(first: Pairs, second: Pairs) -> None:
     if len(places) == 2 and not close(places[0], places[1], box):
         told.append("the affine {} and {}".format(*(affine.tolist() for affine in places)))
     if told:
-        raise GeometryError(f"two grids of different images, {', '.join(told)}: ignore_geometry=True combines them all the same")
+        raise GeometryError(f"two grids of different images, {', '.join(told)}: {instead}")
 
 
 def close(first: np.ndarray, second: np.ndarray, box: Bounds) -> bool:

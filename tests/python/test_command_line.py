@@ -13,6 +13,7 @@ from PIL import Image
 
 from .support import TOP, CommandCase, np, scenefile, vdb
 
+from vdb import formats
 from vdb.command import COMMANDS, STATUSES, main
 from vdb.label_names import Label
 from vdb.scenefile import picture
@@ -107,17 +108,19 @@ class CommandLine(CommandCase):
     def test_other_formats(self):
         """A grid goes into a file of another format and back to the same coordinates, beside other grids."""
         self.made()
-        for ending in (".nrrd", ".vti"):
+        for ending, said in ((".nrrd", {"image_space": "right-anterior-superior"}), (".vti", {})):
             self.run_it("convert", "a.vdbs", f"back{ending}", "--dtype", "int8", "--active", f"on{ending}")
             self.run_it("convert", f"back{ending}", "a.vdbs", "--active", f"on{ending}")
             self.fails("convert", f"back{ending}", "b.vdbs", "--active", f"back{ending}", told=f": back{ending}: the value 3 is neither 0 nor 1")
             scene = scenefile.load(self.folder / "a.vdbs")
-            kept = {"image_array": "int8,10,9,8", "image_low": "-5,0,4090"}
+            kept = {"image_array": "int8,10,9,8", "image_low": "-5,0,4090", **said}
             self.assertEqual((list(scene), scene["back"], dict(scene["back"].metadata)), (["back", "lab"], scene["lab"], kept))
             self.run_it("merge", "a.vdbs", "a.vdbs", "a.vdbs", "--prefer", "a")
             self.fails("convert", "a.vdbs", f"b{ending}", told="a.vdbs: choose a grid by its name: it has back, lab")
             del scene["back"]
             scene.save(self.folder / "a.vdbs")
+        formats.write("far.nrrd", formats.Volume(np.ones((10, 9, 8), bool), np.diag([1, 1, 2]) @ np.eye(3, 4), (-5, 0, 4090)))
+        self.fails("convert", "back.vti", "b.vdbs", "--active", "far.nrrd", told="back.vti: two grids of different images, the affine [[1.0, 0.0, 0.0")
         self.fails("convert", "a.vdbs", "b.nrrd", "--dtype", "uint8", told="a.vdbs: the value -2 at (2, 7, 4097) is outside uint8")
         self.fails("convert", "a.vdbs", "b.nhdr", told="b.nhdr: a .nhdr is only read")
         self.fails("convert", "back.vti", "b.vdbs", "--type", "bool", told="back.vti: the value 3 is neither 0 nor 1")
@@ -314,8 +317,9 @@ class CommandLine(CommandCase):
         self.fails("convert", "a.vdbs", "b.vdbs", "--grid", "a", told="b.vdbs: one of IN and OUT is a scene file (.vdbs, .vdbs.gz), and not both")
         self.fails("convert", "in.npy", "b.nrrd", told="and neither is: convert in two steps, by a scene file")
         self.fails("convert", "a.vdbs", "b.txt", told="b.txt: the ending is none of .npy")
-        (self.folder / "bad.npy").write_bytes(data)
-        self.fails("convert", "bad.npy", "b.vdbs", told="bad.npy: no .npy file")
+        for bytes_of, told in ((data, "the ending is .npy, and the first bytes are those of a scene file, whose ending is .vdbs"), (data[1:], "no .npy file")):
+            (self.folder / "bad.npy").write_bytes(bytes_of)
+            self.fails("convert", "bad.npy", "b.vdbs", told=f"bad.npy: {told}")
         self.fails("convert", "in.npy", "bad.vdbs", "--grid", "a", told="truncated")
         np.save(self.folder / "float.npy", self.values * 0.5)
         self.fails("convert", "float.npy", "a.vdbs", "--grid", "lab", told="float.npy: the value 1.5 at the index (2, 2, 1) isn't an integer of 64 bits, so no grid holds it: threshold or round the image first")

@@ -703,6 +703,54 @@ class Common(Formats):
             with mock.patch("importlib.import_module", side_effect=ImportError), self.assertRaisesRegex(ImportError, package):
                 formats.read(self.folder / name)
 
+    def test_states_of_another_file(self):
+        """States lie in the voxels of the values, by the rules of two grids that are combined."""
+        values, place = numbers(np.uint8), self.place()
+        on, moved = values > 3, np.eye(3, 4) - np.eye(3, 4, 1)
+        path = self.folder / "a.nrrd"
+        formats.write(path, formats.Volume(values, place, LOW))
+        for changed, told in (
+            ({}, ""), ({"affine": place + 1e-5}, ""), ({"affine": place + [[0, 0, 0, 0.5], [0] * 4, [0] * 4]}, "the affine"),
+            ({"affine": place * 2}, "the affine"), ({"values": on[:, :, :2]}, r"the shape \(5, 4, 3\) and \(5, 4, 2\)"),
+            ({"origin": (-9, 3, 4091)}, r"the first voxel \(-9, 3, 4090\) and \(-9, 3, 4091\), the affine"), ({"affine": place @ np.vstack([moved, [0, 0, 0, 1]])}, "the affine"),
+        ):  # fmt: skip
+            formats.write(self.folder / "on.nrrd", formats.Volume(on, place, LOW)._replace(**changed))
+            with self.subTest(changed):
+                if told:
+                    with self.assertRaisesRegex(vdb.GeometryError, f"two grids of different images, {told}.*: states of a .npy file, or an array, are"):
+                        formats.load(path, scenefile.Grid, active=self.folder / "on.nrrd")
+                else:
+                    grid = formats.load(path, scenefile.Grid, active=str(self.folder / "on.nrrd"), origin=(0, 0, 0))
+                    np.testing.assert_array_equal(grid.active[:5, :4, :3], on)
+        np.save(self.folder / "on.npy", on)
+        np.save(self.folder / "a.npy", values)
+        for values_file, states in ((path, "on.npy"), (self.folder / "a.npy", "on.nrrd"), (self.folder / "a.npy", "on.npy")):
+            grid = formats.load(values_file, scenefile.Grid, active=self.folder / states, origin=(0, 0, 0))
+            np.testing.assert_array_equal(grid.active[:5, :4, :3], on)
+        with self.assertRaisesRegex(vdb.RangeError, "a.npy: the value .* is neither 0 nor 1"):
+            formats.load(path, scenefile.Grid, active=self.folder / "a.npy")
+
+    def test_the_first_bytes(self):
+        """A file whose first bytes tell another format than its ending is an error that has both, and so is one of another ending."""
+        np.save(self.folder / "a.npy", np.zeros((2, 2, 2), np.uint8))
+        data = (self.folder / "a.npy").read_bytes()
+        for name, begins, told in (
+            ("a.nii", gzip.compress(data), "the ending is .nii, and the first bytes are those of gzip, whose ending is .nii.gz or .vdbs.gz"),
+            ("b.nii.gz", bytes(344) + b"n+1\0", "those of NIfTI, whose ending is .nii$"), ("c.nrrd", b"\x1c\2\0\0n+2\0", "NIfTI, whose ending is .nii$"),
+            ("d.tif", b"\x89PNG\r\n\x1a\n", "the ending is .tif, .* of PNG, which isn't read"), ("e.npy", b"PK\3\4", "of zip, as .npz files are, which"),
+            ("f.nii", bytes(128) + b"DICM", "of DICOM"), ("g.vti", b"II*\0", "of TIFF, whose ending is .tif or .tiff"), ("h.npy", b"MM\0+", "of TIFF"),
+            ("i.tif", b'<?xml version="1.0"?>\n<VTKFile ', "of VTK, whose ending is .vti"), ("j.npy", b" BDV", "of OpenVDB, which isn't read"),
+            ("k.nii", b"NRRD0004\n", "of NRRD, whose"), ("l.tif", b"\xff\xd8\xff", "of JPEG"), ("m.nii", b"\x89HDF", "of HDF5"), ("n.npy", b"VDBS", "a scene file"),
+        ):  # fmt: skip
+            self.refused(self.written(name, begins), told)
+        for name in ("a", "a.dat"):
+            self.refused(self.written(name, data), "the ending is none of .*, and the first bytes are those of NumPy, whose ending is .npy$", vdb.RangeError)
+            with self.assertRaisesRegex(vdb.MagicFault, "those of NumPy, whose ending is .npy. For an image use vdb.formats.load"):
+                scenefile.load(self.folder / name)
+        scenefile.Scene().save(self.folder / "a.vdbs.gz")
+        with self.assertRaisesRegex(vdb.MagicFault, "those of gzip, whose ending is .nii.gz or .vdbs.gz"):
+            scenefile.load((self.folder / "a.vdbs.gz").rename(self.folder / "z.vdbs"))
+
     def test_endings(self):
         for name in ("a", "a.txt", "a.vdb", "a.nii.bz2"):
             with self.assertRaisesRegex(vdb.RangeError, r"the ending is none of \.npy, \.nii, "):

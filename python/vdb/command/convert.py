@@ -18,7 +18,6 @@ from .. import formats, label_names
 from ..errors import MissingFileError
 from ..forms import DEFAULT_LIMIT, KINDS, NAME_FORM
 from ..formats import npy
-from ..formats.volume import as_kind
 from ..images import DTYPES
 from ..scenefile import Grid, Mask, Scene
 from ..zarr_stores import is_store
@@ -35,8 +34,8 @@ def add_arguments(parser: argparse.ArgumentParser) -> None:
     parser.add_argument("source", metavar="IN", help="the file to read")
     parser.add_argument("out", metavar="OUT", help="the file to write; - for a .npy on standard output")
     parser.add_argument("--grid", type=name_word, metavar="N", help="the name of the grid (default: the only grid of IN, or the name of the file IN)")
-    parser.add_argument("--active", metavar="MASK", help="the file for the states, booleans: read beside IN (default: the voxels other than the "
-                        "background are active), or written beside OUT")  # fmt: skip
+    parser.add_argument("--active", metavar="MASK", help="the file for the states, booleans: read beside IN, whose voxels it must have (default: "
+                        "the voxels other than the background are active), or written beside OUT")  # fmt: skip
     parser.add_argument("--names", metavar="TABLE", help="names of labels: a .tsv of BIDS, a .seg.nrrd or a label file of ITK-SNAP (default: what "
                         "is beside IN or in it)")  # fmt: skip
     parser.add_argument("--digest", action="store_true", help="write the SHA-256 of the scene file OUT to OUT.sha256, which sha256sum -c checks; "
@@ -78,13 +77,9 @@ def read_in(arguments: argparse.Namespace) -> None:
     name = arguments.grid or name_of(arguments.source)
     old = scene.get(name)
     limit = arguments.limit or (old.limit if old else DEFAULT_LIMIT)
-    active = None
-    if arguments.active:
-        with about(arguments.active):
-            active = as_kind(formats.read(arguments.active, arguments.max_bytes).values, KINDS["bool"])
     with about(arguments.source), progress("reading", arguments.source, os.path.getsize(arguments.source)):
         made = formats.load(
-            arguments.source, Grid, active=active, origin=arguments.origin, background=arguments.background, limit=limit,
+            arguments.source, Grid, active=arguments.active, origin=arguments.origin, background=arguments.background, limit=limit,
             metadata=old.metadata if old else None, kind=arguments.type, max_bytes=arguments.max_bytes,
         )  # fmt: skip
     with about(arguments.out):

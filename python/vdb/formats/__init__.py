@@ -14,6 +14,7 @@ from __future__ import annotations
 
 import contextlib
 import os
+import re
 import warnings
 from typing import Any, Dict, Iterator, Mapping, Sequence, Tuple, Type, TypeVar
 
@@ -21,8 +22,8 @@ import numpy as np
 
 from ..errors import DtypeError, FileError, GeometryError, RangeError, VdbError, VdbWarning, VolumeError
 from ..files import naming, replacing
-from ..forms import DEFAULT_LIMIT, Array, Bounds, Coordinate, Progress, Value, check_bounds, check_coordinate, kind_of
-from ..images import DTYPES, Image, affine_of, moved, rows_of
+from ..forms import DEFAULT_LIMIT, KINDS, Array, Bounds, Coordinate, Progress, Value, check_bounds, check_coordinate, kind_of
+from ..images import DTYPES, Image, affine_of, check_same, moved, rows_of
 from ..reading import MAX_BYTES, Readable, check_grid
 from ..zarr_stores import is_store
 from . import nifti, npy, nrrd, ome_zarr, tiff, vti
@@ -32,24 +33,42 @@ __all__ = ["load", "save", "read", "write", "Volume", "FORMATS"]
 
 G = TypeVar("G", bound=Readable)
 
-
-
 #: The format of each ending. A store of zarr is written by `write_store`, any other by `write(file, path, volume)`.
 FORMATS: Dict[str, Any] = {
     ".npy": npy, ".nii": nifti, ".nii.gz": nifti, ".nrrd": nrrd, ".nhdr": nrrd, ".tif": tiff, ".tiff": tiff, ".vti": vti,
     ".zarr": ome_zarr,
 }  # fmt: skip
+#: How files of some formats begin, and their endings, none if nothing here reads them.
+SIGNATURES: "Sequence[Tuple[str, Tuple[str, ...], bytes]]" = (
+    ("NumPy", (".npy",), rb"\x93NUMPY"), ("NIfTI", (".nii",), rb".{344}n\+1\0|.{4}n\+2\0"), ("gzip", (".nii.gz", ".vdbs.gz"), rb"\x1f\x8b"),
+    ("NRRD", (".nrrd", ".nhdr"), rb"NRRD000"), ("TIFF", (".tif", ".tiff"), rb"II[*+]\0|MM\0[*+]"), ("VTK", (".vti",), rb".{0,99}<VTKFile"),
+    ("a scene file", (".vdbs",), rb"VDBS"), ("OpenVDB", (), rb" BDV"), ("DICOM", (), rb".{128}DICM"), ("PNG", (), rb"\x89PNG"),
+    ("JPEG", (), rb"\xff\xd8\xff"), ("HDF5", (), rb"\x89HDF"), ("zip, as .npz files are", (), rb"PK\x03\x04"),
+)  # fmt: skip
 
 
-def format_of(path: "str | os.PathLike[str]") -> Any:
-    """Returns the format of a file by its ending. Raises RangeError for another ending."""
+def signature_of(path: "str | os.PathLike[str]") -> "Tuple[str, Tuple[str, ...]]":
+    """Returns what the first bytes of a file say of its format, as the end of a sentence, and the endings of that format. Both are empty if
+    they say nothing that the ending doesn't."""
+    begins, name = b"", os.fspath(path).lower()
+    with contextlib.suppress(OSError), open(path, "rb") as file:
+        begins = file.read(352)
+    for told, endings, form in SIGNATURES:
+        if re.match(form, begins, re.DOTALL) and not name.endswith(endings):
+            usual = f"whose ending is {' or '.join(endings)}" if endings else "which isn't read"
+            return f", and the first bytes are those of {told}, {usual}", endings
+    return "", ()
+
+
+def format_of(path: "str | os.PathLike[str]", told: str = "") -> Any:
+    """Returns the format of a file by its ending. Raises RangeError for another ending, with what else is told."""
     name = os.fspath(path).lower()
     if is_store(name):
         return ome_zarr
     for ending, made in FORMATS.items():
         if name.endswith(ending):
             return made
-    raise RangeError(f"{os.fspath(path)}: the ending is none of {', '.join(FORMATS)}")
+    raise RangeError(f"{os.fspath(path)}: the ending is none of {', '.join(FORMATS)}{told}")
 
 
 @contextlib.contextmanager
@@ -84,10 +103,13 @@ def read(path: "str | os.PathLike[str]", max_bytes: int = MAX_BYTES, floats: boo
     >>> formats.read("a.npy").values.shape
     (1, 3, 3)
     """
-    made, name = format_of(path), os.fspath(path)
+    name, told = os.fspath(path), signature_of(path)[0]
+    made = format_of(path, told)
     with reading(name):
         if made is not ome_zarr:
             open(name, "rb").close()  # a package may have an error of its own for a file that can't be read
+        if told:
+            raise VolumeError(f"the ending is {os.path.splitext(name)[1]}{told}")
         return made.read(name, max_bytes, floats)
 
 
@@ -112,7 +134,7 @@ def load(
     path: "str | os.PathLike[str]",
     form: Type[G],
     *,
-    active: "Array | None" = None,
+    active: "Array | str | os.PathLike[str] | None" = None,
     origin: "Sequence[int] | None" = None,
     background: "Value | None" = None,
     limit: int = DEFAULT_LIMIT,
@@ -123,8 +145,9 @@ def load(
 ) -> G:
     """Returns a file as a grid of a class, `vdb.Grid`, `vdb.Mask` or one of `vdb.scenefile`.
 
-    `active`, `background`, `limit` and `progress` are those of `from_array`. `origin` is the coordinate of the first voxel; without it, the one that
-    the file keeps, else (0, 0, 0). `metadata` are pairs; those of the file's image replace theirs. `kind` is the type of the grid, if it
+    `active`, `background`, `limit` and `progress` are those of `from_array`; `active` may also be the file of the states. If both files say
+    where their voxels lie, they lie in the same ones, else it is a GeometryError. `origin` is the coordinate of the first voxel; without it,
+    the one that the file keeps, else (0, 0, 0). `metadata` are pairs; those of the file's image replace theirs. `kind` is the type of the grid, if it
     isn't the narrowest for the file's values. Raises the errors of `read` and `from_array`, and LimitError if there are more than 16 pairs.
 
     Examples
@@ -137,14 +160,38 @@ def load(
     volume = read(path, max_bytes)
     at = volume.origin or (0, 0, 0) if origin is None else check_coordinate(origin, "origin")
     values = volume.values if kind is None else as_kind(volume.values, kind_of(kind))
+    image = image_of(volume, at, affine_of(metadata or {}))
+    if isinstance(active, (str, os.PathLike)):
+        active = states_of(active, max_bytes, volume, image)
     active, background = (volume.states if active is None else active), (volume.background if background is None else background)
     grid = form.from_array(values, active, at, background, limit, metadata, progress)  # type: ignore[attr-defined]
+    image.keep(grid.metadata)
+    return grid
+
+
+def image_of(volume: Volume, at: Coordinate, usual: np.ndarray) -> Image:
+    """Returns the image of an array whose first voxel has a coordinate. If its file has no affine, `usual` maps coordinates."""
     dtype = volume.dtype if volume.dtype is not None and volume.dtype.name in DTYPES else volume.values.dtype
-    affine = affine_of(grid.metadata)
+    affine = usual
     if volume.affine is not None:
         affine = moved(affine_of(rows_of(volume.affine)), [-part for part in at])  # of the numbers that the pairs keep
-    Image(at, values.shape, dtype, affine, volume.notes).keep(grid.metadata)  # type: ignore[arg-type]
-    return grid
+    return Image(at, volume.values.shape, dtype, affine, volume.notes)  # type: ignore[arg-type]
+
+
+def states_of(path: "str | os.PathLike[str]", max_bytes: int, volume: Volume, image: Image) -> np.ndarray:
+    """Returns the states of a file for the array of another one, whose image is given. Raises RangeError for a number but 0 and 1, and
+    GeometryError if both files say where their voxels lie, and that differs."""
+    found, low = read(path, max_bytes), image.low
+    if volume.affine is None:
+        found = found._replace(affine=None)
+    if volume.origin and found.origin:
+        low = check_coordinate(np.subtract(found.origin, volume.origin) + low, "origin")
+    try:
+        states = as_kind(found.values, KINDS["bool"])
+    except RangeError as error:
+        raise RangeError(f"{os.fspath(path)}: {error}") from error
+    check_same(image.pairs(), image_of(found, low, image.affine).pairs(), "states of a .npy file, or an array, are taken as they lie")
+    return states
 
 
 def save(
