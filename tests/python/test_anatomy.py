@@ -71,11 +71,23 @@ class Anatomy(CommandCase):
                 found = anatomy_of(scenefile.Grid("bool", metadata={**pairs, **more}))
                 self.assertEqual(found is not None, known and bool(pairs or more), (pairs, more))
         self.assertEqual(panes_of(None)[0].edges, "")
-        for code, status in ((0, 1), (1, 0)):
+        for sform, qform in ((0, 0), (0, 1), (1, 0), (2, 0), (2, 2)):
             image = nibabel.Nifti1Image(np.ones((3, 4, 5), np.uint8), np.eye(4))
-            image.set_sform(np.eye(4), code)
+            image.set_sform(np.eye(4), sform)
+            image.set_qform(np.eye(4), qform)
             nibabel.save(image, "a.nii")
-            self.run_it("slice", "a.nii", "--axis", "axial", "--at", 2, "out.png", status=status)
+            self.run_it("slice", "a.nii", "--axis", "axial", "--at", 2, "out.png", status=not (sform or qform))
+            self.run_it("convert", "a.nii", f"a{sform}{qform}.vdbs")
+            self.run_it("slice", f"a{sform}{qform}.vdbs", "--axis", "axial", "--at", 2, "out.png", status=not (sform or qform))
+            self.run_it("convert", f"a{sform}{qform}.vdbs", "b.nii")
+            self.assertEqual([int(nibabel.load("b.nii").header[f"{form}_code"]) for form in ("sform", "qform")], [sform, qform])
+        for space, status in (("right-anterior-superior", 0), ("RAS", 0), ("left-posterior-superior", 0), ("scanner-xyz", 1)):
+            directions = "(-1,0,0) (0,-1,0) (0,0,1)" if space[0] == "l" else "(1,0,0) (0,1,0) (0,0,1)"
+            head = f"NRRD0004\ntype: uint8\ndimension: 3\nsizes: 3 4 5\nencoding: raw\nspace: {space}\nspace directions: {directions}\n\n"
+            (self.folder / "a.nrrd").write_bytes(head.encode() + bytes([1]) * 60)
+            self.run_it("slice", "a.nrrd", "--axis", "axial", "--at", 2, "out.png", status=status)
+        np.save("a.npy", np.ones((3, 4, 5), np.uint8))
+        self.run_it("slice", "a.npy", "--axis", "axial", "--at", 2, "out.png", status=1)
 
     def test_slices(self):
         """A slice is the plane of the image in the order that nibabel gives it, left to the right and up to the top, with its proportions."""

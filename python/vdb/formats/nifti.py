@@ -19,7 +19,7 @@ import numpy as np
 
 from ..errors import VdbWarning, VolumeError
 from ..forms import Coordinate
-from ..images import identity, numbers_of, text_of
+from ..images import USUAL, identity, numbers_of, text_of
 from .volume import Volume, allow, check_room, flat, integers, package, quiet, stored
 
 #: The greatest side of an image of version 1.
@@ -28,8 +28,6 @@ MOST = 2**15 - 1
 SPACE, UNITS = 7, {1: "m", 2: "mm", 3: "um"}
 #: The fields of a qform by the notes that keep them.
 QFORM = {"image_turn": ("quatern_b", "quatern_c", "quatern_d"), "image_shift": ("qoffset_x", "qoffset_y", "qoffset_z")}
-#: The codes of the sform, the qform and the unit of time that an image of another format has.
-CODES = "2,0,0"
 INTENT = ("intent_code", "intent_p1", "intent_p2", "intent_p3")
 
 
@@ -96,12 +94,13 @@ def notes_of(header: Any, affine: np.ndarray) -> Dict[str, str]:
         for key, text in transform_of(header).items():
             if (codes[1] > 0 or key == "image_sizes") and (codes[0] <= 0 or text != transform_of(usual)[key]):
                 notes[key] = text
-    return {key: text for key, text in notes.items() if text and (key, text) != ("image_nifti", CODES)}
+    return {key: text for key, text in notes.items() if text}
 
 
 def codes_of(notes: "Mapping[str, str]") -> "list[int]":
-    """Returns the codes of the sform, the qform and the unit of time, and behind them the version if it isn't 1."""
-    return [int(code) for code in notes.get("image_nifti", CODES).split(",")]
+    """Returns the codes of the sform, the qform and the unit of time, and behind them the version if it isn't 1. Without a note they are
+    the usual ones."""
+    return [int(code) for code in notes.get("image_nifti", USUAL["image_nifti"]).split(",")]
 
 
 def transform_of(header: Any) -> Dict[str, str]:

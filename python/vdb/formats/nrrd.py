@@ -17,7 +17,7 @@ import numpy as np
 
 from ..errors import VolumeError
 from ..forms import TEXT_FORM
-from ..images import identity, number_of
+from ..images import USUAL, identity, number_of
 from .volume import Volume, allow, check_room, flat, integers, planes, stored
 
 #: The most bytes of a header.
@@ -44,7 +44,7 @@ WORDS = {
     "f8": "double",
 }  # fmt: skip
 #: The signs of the first two rows of an affine, by which a space becomes RAS.
-RAS = "right-anterior-superior"
+RAS = USUAL["image_space"]
 SPACES = {
     RAS: (1, 1), "ras": (1, 1), "left-anterior-superior": (-1, 1), "las": (-1, 1), "left-posterior-superior": (-1, -1),
     "lps": (-1, -1),
@@ -204,7 +204,7 @@ def notes_of(fields: Fields) -> Dict[str, str]:
     """Returns the space and the units of a header, by the keys of vdb.images.NOTES."""
     units = [quote(unit) for unit in re.findall(r'"([^"]*)"', fields.get("spaceunits", ""))]
     space = fields.get("space", "")
-    notes = {"image_space": "" if space.lower() in ("ras", RAS) else space, "image_units": ",".join(units[:1] if len({*units}) == 1 else units)}
+    notes = {"image_space": RAS if space.lower() == "ras" else space, "image_units": ",".join(units[:1] if len({*units}) == 1 else units)}
     return {key: text for key, text in notes.items() if TEXT_FORM.match(text.encode())}
 
 
