@@ -133,13 +133,15 @@ class Chunks(Voxels):
         return [check_bounds(box) for box in blocks_of(self._source.form, [(self._source, 0)])]
 
     def grid(self, bounds: "Sequence[Sequence[int]]") -> Grid:
-        """Returns the voxels of a box as a grid, or of what `select` made as a mask."""
-        return grid_of(self._source, np.array(check_bounds(bounds)))
+        """Returns the voxels of a box as a grid, or of what `select` made as a mask, with the image and the names of labels."""
+        made = grid_of(self._source, np.array(check_bounds(bounds)), metadata=self.metadata)
+        label_names.give(made, self.folder, self.names)
+        return made
 
     def map(self, call: "Callable[[Grid], Any]", halo: int = 0) -> "list[Any]":
         """Returns what a call of a grid returns for each of `blocks()`, in their order. The grid has the voxels of the block, and those up to
-        `halo` voxels from it. `call` is pickled if processes work."""
-        return [*each(partial(mapped, call, self._source, halo), self.blocks())]
+        `halo` voxels from it, and the image. `call` is pickled if processes work."""
+        return [*each(partial(mapped, call, self._source, halo, dict(self.metadata)), self.blocks())]
 
     def labels(self) -> Labels:
         """Returns the values of active voxels with their numbers and bounding boxes, as `Grid.labels` does."""
@@ -347,20 +349,21 @@ def arrays_of(source: Source, box: Box) -> "tuple[np.ndarray, np.ndarray]":
     return values, values != source.form.background if active is None else active
 
 
-def grid_of(source: Source, box: Box, is_turned: bool = False) -> Grid:
+def grid_of(source: Source, box: Box, is_turned: bool = False, metadata: "Mapping[str, str] | None" = None) -> Grid:
     """Returns the voxels of a box as a grid or a mask, with the axes of the store, z, y, x, if it is turned. Then no array is copied."""
     values, active = source.read(box)
     origin = box[0]
     if is_turned:
         values, active, origin = values.T, None if active is None else active.T, origin[::-1]
     if source.form.is_mask:
-        return Mask.from_array(np.ascontiguousarray(values), origin=origin)
-    return Grid.from_array(np.ascontiguousarray(values, KINDS[source.form.kind].dtype), active, origin, source.form.background)
+        return Mask.from_array(np.ascontiguousarray(values), origin=origin, metadata=metadata)
+    values = np.ascontiguousarray(values, KINDS[source.form.kind].dtype)
+    return Grid.from_array(values, active, origin, source.form.background, metadata=metadata)
 
 
-def mapped(call: "Callable[[Grid], Any]", source: Source, halo: int, box: Box) -> Any:
+def mapped(call: "Callable[[Grid], Any]", source: Source, halo: int, metadata: "Mapping[str, str]", box: Box) -> Any:
     """Returns what a call returns for the voxels of a box and around it."""
-    return call(grid_of(source, grown(box, halo)))
+    return call(grid_of(source, grown(box, halo), metadata=metadata))
 
 
 def box_of(low: Coordinate, places: Any) -> Box:

@@ -13,6 +13,7 @@
     image_turn                    the qform's quaternion b, c, d and its sign: 0,0,1,-1                         if the affine gives it
     image_shift                   the qform's offset x, y, z: 90,-126,-72                                       if the affine gives it
     image_sizes                   the voxel sizes of the header: 1,1,2.5                                        if the affine gives them
+    label_names_1 to _6           names of labels, and colours: 2:left+kidney:ff8800;5:liver, cut at each 64    without names
 
 With the identity, RAS and the codes 2,0,0 are kept: only they say that it is an affine of a body.
 A number has all its digits, unless a row has no room for them. A grid with rows and without `image_array` has a place in the world, but
@@ -38,6 +39,8 @@ ARRAY, LOW = "image_array", "image_low"
 #: The keys of what only some formats say, whose texts `Image.notes` has.
 NOTES = ("image_units", "image_space", "image_nifti", "image_intent", "image_name", "image_turn", "image_shift", "image_sizes")
 KEYS = (*ROWS, ARRAY, LOW, *NOTES)
+#: The keys of the names of labels, which vdb.label_names reads and writes.
+LABELS = tuple(f"label_names_{number}" for number in range(1, 7))
 #: The dtypes that files of images have.
 DTYPES = ("bool", *(f"{sign}int{bits}" for sign in ("", "u") for bits in (8, 16, 32, 64)), "float16", "float32", "float64")
 #: The most characters of a row.
@@ -114,9 +117,9 @@ class Image:
         put(metadata, self.pairs())
 
 
-def put(metadata: Metadata, pairs: Pairs) -> None:
-    """Puts the pairs of an image in place of those of another. Raises LimitError, before anything changes, if there is no room for them."""
-    made = Metadata({key: text for key, text in metadata.items() if key not in KEYS})
+def put(metadata: Metadata, pairs: Pairs, keys: Sequence[str] = KEYS) -> None:
+    """Puts pairs, those of an image, in place of others with some keys. Raises LimitError, before anything changes, if there is no room."""
+    made = Metadata({key: text for key, text in metadata.items() if key not in keys})
     made.update(pairs)
     metadata.clear()
     metadata.update(made)
@@ -128,6 +131,13 @@ def kept(metadata: Pairs, dtype: "np.dtype | None" = None) -> Dict[str, str]:
     if dtype is not None and ARRAY in made:
         made[ARRAY] = dtype.name + made[ARRAY][made[ARRAY].find(",") :]
     return made
+
+
+def masked(metadata: Pairs, kind: str) -> Dict[str, str]:
+    """Returns the metadata of the mask of a grid of some type: its image has the dtype bool, and labels of numbers have no names there."""
+    if kind == "bool":
+        return dict(metadata)
+    return {**{key: text for key, text in metadata.items() if key not in LABELS}, **kept(metadata, np.dtype(np.bool_))}
 
 
 def agreed(first: Metadata, second: Pairs, dtype: np.dtype) -> Metadata:

@@ -1,10 +1,11 @@
 # SPDX-License-Identifier: Apache-2.0
-"""Names and colours of labels, which a scene file can't hold: a table beside it keeps them.
+"""Names and colours of labels: metadata pairs of a grid keep up to 384 characters of them, and a table beside a file any number.
 
-    names = label_names.of("labels.vdbs", "organs")
-    for row in vdb.load("labels.vdbs")["organs"].labels().rows(names):
+    organs = vdb.load("labels.vdbs")["organs"]
+    for row in organs.labels().rows(organs.names or label_names.of("labels.vdbs", "organs")):
         print(row.value, row.name, row.voxels)
 
+`vdb.formats.load` gives a grid the names of its file, and `grid.names = ..` sets them. They go with the grid through calls and scene files.
 A table is the one of BIDS: columns `index`, `name` and `color` (as #ff8800), with tabs between them. That of the grid `organs` of
 `labels.vdbs` is `labels.organs.tsv`, else `labels.tsv`; that of `labels_dseg.nii.gz` is `labels_dseg.tsv`. Names are also read of the
 header of a `.seg.nrrd`, and of a label file of ITK-SNAP.
@@ -16,20 +17,27 @@ import io
 import os
 import re
 import warnings
-from typing import Any, Dict, Mapping, NamedTuple, Optional, Tuple
+from typing import TYPE_CHECKING, Any, Dict, Mapping, NamedTuple, Optional, Tuple
+from urllib.parse import quote_plus, unquote_plus
 
 import numpy as np
 
-from . import zarr_stores
-from .errors import MissingFileError, VdbWarning, VolumeError
+from . import images, zarr_stores
+from .errors import LimitError, MissingFileError, VdbError, VdbWarning, VolumeError
 from .files import naming, replacing
 from .formats import nrrd
+from .forms import MAX_PAIRS, MAX_TEXT, Metadata
+
+if TYPE_CHECKING:
+    from .reading import Readable
 
 #: The most bytes of a table.
 MOST_BYTES = 2**24
 ENDINGS = re.compile(r"(\.seg)?\.(vdbs|vdbs\.gz|nii|nii\.gz|nrrd|nhdr|tiff?|vti|npy)$", re.IGNORECASE)
 SNAP = re.compile(r'\s*(-?\d+)' + r"\s+(\d+)" * 3 + r'\s+\S+\s+\S+\s+\S+\s+"(.*)"\s*$')
 SEGMENT = re.compile(r"(Segment\d+)_LabelValue$")
+#: A label in metadata pairs: its value, its name with spaces as + and other bytes as %20, and its colour.
+ENTRY = re.compile(r"(-?\d{1,19}):([^:]*)(?::([0-9a-f]{6}))?")
 
 
 class Label(NamedTuple):
@@ -47,9 +55,9 @@ class NoTable(ValueError):
     """The columns of a table aren't those of names."""
 
 
-def of(path: "str | os.PathLike[str]", grid: str = "") -> Names:
-    """Returns the names of the labels of an image file, or of a grid of a scene file: those of its header, else of the table beside it.
-    Without either it returns none. Raises VolumeError if a row of the table has another form, and FileError if it can't be read."""
+def of(path: "str | os.PathLike[str]", grid: str = "", metadata: "Mapping[str, str]" = {}) -> Names:
+    """Returns the names of the labels of an image file, or of a grid of a scene file: those of its header, else of the table beside it, else
+    of metadata pairs. Without any it returns none. Raises VolumeError if a row of the table has another form, and FileError if it can't be read."""
     name = os.fspath(path)
     if zarr_stores.is_store(name):
         return of_image_label(zarr_stores.attributes_of(name).get("image-label", {}))
@@ -64,7 +72,7 @@ def of(path: "str | os.PathLike[str]", grid: str = "") -> Names:
             raise
         if names or place != name:
             return names
-    return {}
+    return of_pairs(metadata)
 
 
 def table_of(path: "str | os.PathLike[str]", grid: str = "") -> str:
@@ -86,6 +94,45 @@ def read(path: "str | os.PathLike[str]") -> Names:
             return (of_table if name.lower().endswith(".tsv") else of_snap)(text)
         except (ValueError, csv.Error) as error:
             raise VolumeError(getattr(error, "reason", None) or str(error), name) from error
+
+
+def of_pairs(metadata: "Mapping[str, str]") -> Names:
+    """Returns the names that metadata pairs keep. Raises VolumeError if they have another form."""
+    text = "".join(metadata[key] for key in images.LABELS if key in metadata)
+    found = [ENTRY.fullmatch(entry) for entry in text.split(";")] if text else []
+    if not all(found):
+        raise VolumeError(f"the pairs {images.LABELS[0]} and so on aren't of the form 2:left+kidney:ff8800;5:liver, but {text!r}")
+    return {int(entry[1]): Label(unquote_plus(entry[2]), colour_of(entry[3], 1)) for entry in found if entry}
+
+
+def put(metadata: Metadata, names: Names) -> None:
+    """Keeps names in metadata pairs, in place of others. Raises LimitError, before anything changes, if there is no room for them.
+
+    Examples
+    --------
+    >>> metadata = Metadata({"patient": "17"})
+    >>> put(metadata, {2: Label("left kidney", (255, 136, 0)), 5: Label("liver")})
+    >>> metadata["label_names_1"], of_pairs(metadata)[5]
+    ('2:left+kidney:ff8800;5:liver', Label(name='liver', colour=None))
+    """
+    text = ";".join(
+        f"{index}:{quote_plus(name, '()/,')}{':%02x%02x%02x' % colour if colour else ''}" for index, (name, colour) in sorted(names.items())
+    )
+    room = MAX_TEXT * min(len(images.LABELS), MAX_PAIRS - len({*metadata} - {*images.LABELS}))
+    if len(text) > room:
+        told = "vdb.label_names.keep(FILE, names, GRID) writes them to a table beside a file"
+        raise LimitError(f"the names of {len(names):,} labels have {len(text):,} characters, and metadata pairs room for {room}: {told}")
+    images.put(metadata, {key: text[at : at + MAX_TEXT] for key, at in zip(images.LABELS, range(0, len(text), MAX_TEXT))}, images.LABELS)
+
+
+def give(grid: "Readable", path: "str | os.PathLike[str]", names: "Optional[Names]" = None) -> None:
+    """Gives a grid names, or those of the file that it was read of. Warns if it has no room for them, or the file's have a fault."""
+    try:
+        found = of(path) if names is None else names
+        if found:
+            grid.names = found
+    except VdbError as error:
+        warnings.warn(f"{os.fspath(path)} is read without the names of labels: {error}", VdbWarning, stacklevel=3)
 
 
 def of_table(text: str) -> Names:

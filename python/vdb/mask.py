@@ -50,13 +50,9 @@ class Mask(Grid):
         """Makes the mask of the active voxels of a grid or a view, or an empty one. Limit and metadata are those of the grid unless given."""
         if grid is not None:
             check_grid(grid)
-        pairs = Metadata(metadata if grid is None or metadata is not None else grid.metadata)
-        if grid is None:
-            held = new_grid(BOOL, False, DEFAULT_LIMIT if limit is None else limit)
-        else:
-            held = mask_of(grid._handle(), limit)
-            pairs.update(images.kept(pairs, None if grid.kind == "bool" else BOOL.dtype))
-        self._kind, self._metadata, self._held = BOOL, pairs, held
+        pairs = grid.metadata if grid is not None and metadata is None else metadata or {}
+        self._kind, self._metadata = BOOL, Metadata(images.masked(pairs, grid.kind if grid is not None else "bool"))
+        self._held = new_grid(BOOL, False, DEFAULT_LIMIT if limit is None else limit) if grid is None else mask_of(grid._handle(), limit)
 
     @classmethod
     def from_array(

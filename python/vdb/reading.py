@@ -4,7 +4,7 @@ from __future__ import annotations
 
 import html
 import math
-from typing import Any, Callable, Iterator, NamedTuple, Optional, Sequence, Union
+from typing import TYPE_CHECKING, Any, Callable, Iterator, NamedTuple, Optional, Sequence, Union
 
 import numpy as np
 
@@ -14,6 +14,9 @@ from .errors import ArrayTooLargeError, DtypeError, RangeError
 from .forms import COORDINATE_SPAN, Bounds, Coordinate, Kind, Metadata, Progress, Value, check_bounds
 from .image_view import ImageView
 from .manners import Voxels
+
+if TYPE_CHECKING:
+    from .label_names import Names
 
 #: The most bytes of the dense arrays that a grid makes unless the caller allows more.
 MAX_BYTES = 2**31
@@ -59,7 +62,7 @@ def part_of(key: Key, bounds: "Callable[[], Optional[Bounds]]") -> Part:
         parts = (*parts[: dots[0]], *[slice(None)] * (4 - len(parts)), *parts[dots[0] + 1 :])
     if len(parts) != 3:
         is_mask = isinstance(key, (Voxels, np.ndarray))
-        given = f"{type(key).__name__}: where(mask) reads the voxels of a mask, and relabel or replace changes values" if is_mask else repr(key)
+        given = f"{type(key).__name__}: where(mask) reads the voxels of a mask, and replace(vdb.Grid(grid.kind, background=6) | mask) makes them 6" if is_mask else repr(key)
         raise DtypeError(f"an index is three integers or slices x, y, z, not {given}")
     is_open = any(isinstance(part, slice) and None in (part.start, part.stop) for part in parts)
     low, high = is_open and bounds() or ((0, 0, 0), (-1, -1, -1))
@@ -142,6 +145,20 @@ class Readable(Voxels):
     def metadata(self) -> Metadata:
         """The metadata pairs, a mapping of keys to texts that checks what is set."""
         return self._metadata
+
+    @property
+    def names(self) -> "Names":
+        """The names of labels by their values, which metadata pairs keep (a copy). Setting them raises LimitError if the pairs, at most six of
+        64 characters, have no room: then a table beside the file keeps them (vdb.label_names)."""
+        from .label_names import of_pairs
+
+        return of_pairs(self._metadata)
+
+    @names.setter
+    def names(self, names: "Names") -> None:
+        from .label_names import put
+
+        put(self._metadata, names)
 
     @property
     def image(self) -> ImageView:

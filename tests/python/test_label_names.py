@@ -2,14 +2,18 @@
 """Names of labels: tables of BIDS, segments of 3D Slicer, label files of ITK-SNAP, and where the commands show them."""
 import doctest
 import json
+import pickle
 import unittest
+import warnings
 
-from .support import CommandCase, np, scenefile, vdb
+from .support import CommandCase, library_missing, np, scenefile, vdb
 
-from vdb import images, label_names
+from vdb import formats, images, label_names
 
 # By BIDS 1.8, "Common image-derived labels"; the columns may have any order.
 BIDS = "name\tindex\tabbreviation\tcolor\nGray  Matter\t1\tGM\t#ff53bb\nWhite Matter\t2\tWM\tn/a\nNiere rechts \u00fc\t-3\tNi\t2f8bd0\n"
+# The pairs for them, by hand, in the order of values: the text is cut at 64 characters.
+PAIRS = {"label_names_1": "-3:Niere+rechts+%C3%BC:2f8bd0;1:Gray++Matter:ff53bb;2:White+Matt", "label_names_2": "er"}
 WANTED = {1: ("Gray  Matter", (255, 83, 187)), 2: ("White Matter", None), -3: ("Niere rechts \u00fc", (47, 139, 208))}
 # The label file that ITK-SNAP writes, shortened.
 SNAP = """\
@@ -103,6 +107,73 @@ class Converted(CommandCase):
         self.assertEqual((status, (self.folder / "out.tsv").read_text()), (0, "onset\tduration\n1\t2\n"))
         self.assertIn("vdb-scene: warning: out.tsv: the table has no columns index and name, with tabs between them: the names", errors)
         self.fails("convert", "in.npy", "a.vdbs", "--grid", "one", "--names", "none.tsv", told="none.tsv: No such file")
+
+
+class Kept(CommandCase):
+    """Names in metadata pairs go with a grid."""
+
+    def setUp(self):
+        super().setUp()
+        np.save("in.npy", np.full((2, 2, 2), 2, np.uint8))
+        (self.folder / "in.tsv").write_text(BIDS, encoding="utf-8")
+        self.packages = [scenefile, *([] if library_missing() else [vdb])]
+
+    def test_scene_files(self):
+        for package in self.packages:
+            grid = formats.load("in.npy", package.Grid)
+            self.assertEqual((grid.names, dict(grid.metadata)), (WANTED, {**PAIRS, "image_array": "uint8,2,2,2"}))
+            package.Scene({"organs": grid}).save("a.vdbs")
+            for made in (package.load("a.vdbs")["organs"], grid.copy(), pickle.loads(pickle.dumps(grid))):
+                self.assertEqual((made.names, made), (WANTED, grid))
+            for made in (grid == 2, package.Mask(grid)):
+                self.assertEqual(dict(made.metadata), {"image_array": "bool,2,2,2"})
+            lesion = package.Mask(grid)
+            lesion.names = {1: label_names.Label("lesion")}
+            self.assertEqual(package.Mask(lesion).names, {1: ("lesion", None)})
+            self.assertEqual(self.run_it("labels", "a.vdbs", "organs"), "2 8 0 0 0 1 1 1 White Matter\n")
+            (self.folder / "a.tsv").write_text("index\tname\n2\tEar\n")
+            self.assertEqual(self.run_it("labels", "a.vdbs", "organs"), "2 8 0 0 0 1 1 1 Ear\n")
+            (self.folder / "a.tsv").unlink()
+            self.run_it("mesh", "a.vdbs", "organs", "a.ply")
+            self.assertIn(b"comment label 2 White Matter\n", (self.folder / "a.ply").read_bytes())
+            self.run_it("convert", "a.vdbs", "out.npy")
+            self.assertEqual(label_names.of("out.npy")[2], ("White Matter", None))
+
+    def test_room(self):
+        """Six pairs of 64 characters are the most, fewer if the grid has more than ten others. Nothing changes where they don't suffice."""
+        for own, most in ((0, 384), (10, 384), (11, 320), (16, 0)):
+            pairs = {f"own_{number}": "x" for number in range(own)}
+            grid = scenefile.Grid("i32", metadata=pairs)
+            if most:
+                grid.names = names = {5: label_names.Label("x" * (most - 2))}
+                self.assertEqual((grid.names, len(grid.metadata)), (names, own + most // 64))
+            before = dict(grid.metadata)
+            with self.assertRaisesRegex(vdb.LimitError, rf"labels have {most + 3} characters, and metadata pairs room for {most}: vdb.label_names.keep"):
+                grid.names = {5: label_names.Label("x" * (most + 1))}
+            self.assertEqual(dict(grid.metadata), before)
+            grid.names = {}
+            self.assertEqual(dict(grid.metadata), pairs)
+        grid = scenefile.Grid("i32", metadata={"label_names_1": "5:Ear;red"})
+        with self.assertRaisesRegex(vdb.VolumeError, "label_names_1 and so on aren't of the form"):
+            grid.names
+
+    def test_images(self):
+        """Names go from an image to a grid, and to the table beside another image, which stays if it is there."""
+        (self.folder / "in.seg.nrrd").write_bytes(SEGMENTS)
+        grid = formats.load("in.seg.nrrd", scenefile.Grid)
+        formats.save("out.vti", grid)
+        self.assertEqual((grid.names, label_names.of("out.vti")), ({7: ("left kidney", (128, 174, 255)), 9: ("liver: a part", None)},) * 2)
+        (self.folder / "other.tsv").write_text("index\tname\n2\tEar\n")
+        formats.save("other.nrrd", grid)
+        self.assertEqual((self.folder / "other.tsv").read_text(), "index\tname\n2\tEar\n")
+        for table, told in (("".join(f"{at}\t{at:0>40}\n" for at in range(99)), "the names of 99 labels have 4,345"), ("x\tEar\n", "in.tsv: line 2: the index 'x'")):
+            (self.folder / "in.tsv").write_text(f"index\tname\n{table}")
+            with self.assertWarnsRegex(vdb.VdbWarning, f"in.npy is read without the names of labels: {told}"):
+                self.assertEqual(formats.load("in.npy", scenefile.Grid).names, {})
+        with warnings.catch_warnings():
+            warnings.simplefilter("error")
+            (self.folder / "in.tsv").write_text("onset\tduration\n1\t2\n")
+            self.assertEqual(formats.load("in.npy", scenefile.Grid).names, {})
 
 
 class Shown(CommandCase):

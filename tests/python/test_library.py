@@ -390,7 +390,7 @@ class Calls(unittest.TestCase):
             (ValueError, "outside 32 bits", lambda: grid[0, 0, MOST + 1]),
             (ValueError, "outside 32 bits", lambda: grid.fill((box[0], (0, 0, MOST + 1)), 1)),
             (TypeError, "three integers", lambda: grid[0, 0]),
-            (vdb.DtypeError, r"not Mask: where\(mask\) reads .* relabel or replace changes", lambda: grid[grid == 3]),
+            (vdb.DtypeError, r"not Mask: where\(mask\) reads .* replace\(vdb.Grid\(grid.kind, background=6\) \| mask\) makes them 6", lambda: grid[grid == 3]),
             (vdb.DtypeError, r"not ndarray: where\(mask\) reads", lambda: grid.__setitem__(np.ones((2, 2, 2), bool), 9)),
             (vdb.RangeError, r"not ndarray: Grid\.from_array makes", lambda: vdb.Grid(np.ones((2, 2, 2), np.uint8))),
             (vdb.RangeError, r"not list: Grid\.from_array makes", lambda: vdb.Grid([[[3]]])),

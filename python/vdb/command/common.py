@@ -131,12 +131,12 @@ def opened(arguments: argparse.Namespace) -> "Tuple[str, scenefile.Grid, label_n
         with naming(path):
             size = os.path.getsize(path)
         with about(path), progress("reading", path, size):
-            grid = formats.load(path, scenefile.Grid, max_bytes=arguments.max_bytes)
+            grid = formats.unnamed(path, scenefile.Grid, max_bytes=arguments.max_bytes)
         return name or os.path.basename(path).partition(".")[0], grid, label_names.of(path)
     scene = loaded(path)
     grid = grid_of(scene, path, name)
     name = next(name for name, each in scene.items() if each is grid)
-    return name, grid, label_names.of(path, name)
+    return name, grid, label_names.of(path, name, grid.metadata)
 
 
 def world_of(grid: scenefile.Grid) -> np.ndarray:

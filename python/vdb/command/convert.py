@@ -6,13 +6,14 @@ One of IN and OUT is a scene file (.vdbs, .vdbs.gz). The ending of the other one
 A scene file that exists keeps its other grids. A grid of the same name is replaced; its
 metadata and root limit stay. A grid that was an image is written as that image, with its shape,
 dtype and place; any other grid as the bounding box of its active voxels. The origin and the
-shape are printed on standard error. Names of labels are copied from the table beside IN, or
-the header of a .seg.nrrd, to a table beside OUT: OUT.GRID.tsv for a scene file OUT.vdbs."""
+shape are printed on standard error. Names of labels are copied from the table beside IN, the
+header of a .seg.nrrd, or metadata pairs, to a table beside OUT: OUT.GRID.tsv for a scene file OUT.vdbs."""
 from __future__ import annotations
 
 import argparse
 import os
 import sys
+from typing import Mapping
 
 from .. import formats, label_names
 from ..errors import MissingFileError
@@ -78,21 +79,21 @@ def read_in(arguments: argparse.Namespace) -> None:
     old = scene.get(name)
     limit = arguments.limit or (old.limit if old else DEFAULT_LIMIT)
     with about(arguments.source), progress("reading", arguments.source, os.path.getsize(arguments.source)):
-        made = formats.load(
+        made = formats.unnamed(
             arguments.source, Grid, active=arguments.active, origin=arguments.origin, background=arguments.background, limit=limit,
             metadata=old.metadata if old else None, kind=arguments.type, max_bytes=arguments.max_bytes,
         )  # fmt: skip
     with about(arguments.out):
         scene[name] = made
-    names = names_of(arguments, "")
+    names = names_of(arguments)
     saved(scene, arguments.out, arguments.digest)
     if names:
         label_names.keep(arguments.out, names, name)
 
 
-def names_of(arguments: argparse.Namespace, grid: str) -> label_names.Names:
+def names_of(arguments: argparse.Namespace, grid: str = "", metadata: Mapping[str, str] = {}) -> label_names.Names:
     """Returns the names of labels that belong to IN."""
-    return label_names.read(arguments.names) if arguments.names else label_names.of(arguments.source, grid)
+    return label_names.read(arguments.names) if arguments.names else label_names.of(arguments.source, grid, metadata)
 
 
 def name_of(path: str) -> str:
@@ -111,7 +112,7 @@ def write_out(arguments: argparse.Namespace) -> None:
             formats.format_of(path)
     scene = loaded(arguments.source, arguments.digest)
     grid = grid_of(scene, arguments.source, arguments.grid)
-    names = {} if arguments.states else names_of(arguments, arguments.grid or next(iter(scene)))
+    names = {} if arguments.states else names_of(arguments, arguments.grid or next(iter(scene)), grid.metadata)
     grid = Mask(grid) if arguments.states else grid
     with about(arguments.source):
         volumes = formats.volume_of(

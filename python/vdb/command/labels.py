@@ -2,7 +2,7 @@
 """Prints each value of active voxels: VALUE COUNT X0 Y0 Z0 X1 Y1 Z1 NAME, by rising values.
 
 COUNT is the number of active voxels with this value, the six numbers are their bounding box. NAME
-is that of the table of names, FILE.GRID.tsv or FILE.tsv (without .vdbs), if it has one.
+is that of the table of names, FILE.GRID.tsv or FILE.tsv (without .vdbs), or of metadata pairs.
 
 With --measure it prints VALUE COUNT VOLUME AREA X Y Z DX DY DZ X0 Y0 Z0 X1 Y1 Z1 NEIGHBOURS NAME.
 AREA is that of the faces between these voxels and all others, X Y Z the mean of their coordinates in
@@ -31,7 +31,8 @@ def add_arguments(parser: argparse.ArgumentParser) -> None:
 
 
 def run(arguments: argparse.Namespace) -> None:
-    grid, names = grid_of(loaded(arguments.file), arguments.file, arguments.grid), label_names.of(arguments.file, arguments.grid)
+    grid = grid_of(loaded(arguments.file), arguments.file, arguments.grid)
+    names = label_names.of(arguments.file, arguments.grid, grid.metadata)
     if not arguments.measure:
         for label in grid.labels().rows(names):
             print(text_of(label.value), label.voxels, numbers_of((label.low, label.high)), *label.name.split())

@@ -45,7 +45,7 @@ def run(arguments: argparse.Namespace) -> None:
     grid = grid_of(loaded(arguments.file), arguments.file, arguments.grid)
     with about(arguments.file), progress("finding faces in", arguments.file, unit=" voxels") as show:
         model = model_of(grid, arguments.grid, arguments.label, arguments.merge, arguments.max_faces, show)
-        model = model._replace(names=label_names.of(arguments.file, arguments.grid))
+        model = model._replace(names=label_names.of(arguments.file, arguments.grid, grid.metadata))
     with about(arguments.out), output(arguments.out) as file:
         for piece in WRITERS[ending](model):
             file.write(piece)

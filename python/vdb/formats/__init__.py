@@ -20,6 +20,7 @@ from typing import Any, Dict, Iterator, Mapping, Sequence, Tuple, Type, TypeVar
 
 import numpy as np
 
+from .. import label_names
 from ..errors import DtypeError, FileError, GeometryError, RangeError, VdbError, VdbWarning, VolumeError
 from ..files import naming, replacing
 from ..forms import DEFAULT_LIMIT, KINDS, Array, Bounds, Coordinate, Progress, Value, check_bounds, check_coordinate, kind_of
@@ -148,7 +149,8 @@ def load(
     `active`, `background`, `limit` and `progress` are those of `from_array`; `active` may also be the file of the states. If both files say
     where their voxels lie, they lie in the same ones, else it is a GeometryError. `origin` is the coordinate of the first voxel; without it,
     the one that the file keeps, else (0, 0, 0). `metadata` are pairs; those of the file's image replace theirs. `kind` is the type of the grid, if it
-    isn't the narrowest for the file's values. Raises the errors of `read` and `from_array`, and LimitError if there are more than 16 pairs.
+    isn't the narrowest for the file's values. `grid.names` are those of the file's labels, in its header or the table beside it; if the grid
+    has no room for them, that is a VdbWarning. Raises the errors of `read` and `from_array`, and LimitError if there are more than 16 pairs.
 
     Examples
     --------
@@ -157,6 +159,17 @@ def load(
     >>> grid.image.shape, str(grid.image.dtype), (grid == 1).count
     ((4, 5, 6), 'uint8', 120)
     """
+    grid = unnamed(path, form, active, origin, background, limit, metadata, kind, max_bytes, progress)
+    label_names.give(grid, path)
+    return grid
+
+
+def unnamed(
+    path: "str | os.PathLike[str]", form: Type[G], active: "Array | str | os.PathLike[str] | None" = None, origin: "Sequence[int] | None" = None,
+    background: "Value | None" = None, limit: int = DEFAULT_LIMIT, metadata: "Mapping[str, str] | None" = None, kind: Any = None,
+    max_bytes: int = MAX_BYTES, progress: "Progress | None" = None,
+) -> G:  # fmt: skip
+    """Returns a file as a grid, as `load` does, without the names of labels."""
     volume = read(path, max_bytes)
     at = volume.origin or (0, 0, 0) if origin is None else check_coordinate(origin, "origin")
     values = volume.values if kind is None else as_kind(volume.values, kind_of(kind))
@@ -216,6 +229,8 @@ def save(
     A store of zarr keeps states and background, and any other file of values shows no states. So without `active` or `values_only` a bool grid whose values and states differ is a RangeError: save
     a `Mask` of it. Active voxels of an integer grid that have the background, as after `dilate`, are a VdbWarning.
 
+    The names of labels go to a table beside the file, unless it has one, or into a store of zarr.
+
     Raises the errors of `write` and `to_array`, DtypeError for anything but a grid, RangeError with a value that the dtype doesn't hold and
     its coordinate, and VolumeError if the metadata pairs of the image have another form.
 
@@ -230,11 +245,14 @@ def save(
         if name is not None:
             format_of(name)
     volume, states = volume_of(grid, bounds, fill, dtype, max_bytes, strict, progress)
+    names = grid.names
     if active is None and not values_only and not is_store(path):
         check_shown(grid, volume.values, states.values, fill)
     write(path, volume)
     if active is not None:
         write(active, states)
+    if names and (is_store(path) or not os.path.exists(label_names.table_of(path))):
+        label_names.keep(path, names)
     return volume
 
 

@@ -236,7 +236,7 @@ class Mask(Grid):
             grid = Grid("bool", limit=DEFAULT_LIMIT if limit is None else limit, metadata=metadata)
         check_grid(grid)
         pairs = grid.metadata if metadata is None else metadata
-        super().__init__("bool", metadata={**pairs, **images.kept(pairs, None if grid.kind == "bool" else KINDS["bool"].dtype)})
+        super().__init__("bool", metadata=images.masked(pairs, grid.kind))
         self._tree = grid._tree.mask(lambda values: np.ones(values.shape, np.bool_))
         self.limit = grid.limit if limit is None else limit
 
