@@ -442,10 +442,13 @@ def level_0(group: Any) -> Opened:
 
 
 def changed(affine: np.ndarray, change: "Mapping[str, Any]", order: "List[int]") -> np.ndarray:
-    """Returns an affine followed by a scale or a translation of OME-Zarr, whose numbers for x, y, z have these places."""
+    """Returns an affine followed by a scale or a translation of OME-Zarr, whose numbers for x, y, z have these places. Raises ValueError for
+    another change."""
     made = affine.copy()
     if change["type"] == "scale":
         made *= np.array([change["scale"][at] for at in order], np.float64)[:, None]
     elif change["type"] == "translation":
         made[:, 3] += [change["translation"][at] for at in order]
+    elif change["type"] != "identity":
+        raise ValueError(f"a coordinate transformation of the type {change['type']}, where identity, scale and translation are read")
     return made

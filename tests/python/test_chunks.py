@@ -237,6 +237,16 @@ class Images(Case):
             self.assertEqual(dict(made.metadata), {**self.PAIRS, "own": "x"})
         self.assertEqual(dict(volume.select(1, place).metadata), {**self.PAIRS, "image_array": "bool,30,20,10"})
         self.assertEqual(dict(other.unite(volume, place).metadata), self.PAIRS)
+        names = {1: vdb.label_names.Label("left kidney"), 2: vdb.label_names.Label("liver", (255, 136, 0))}
+        named = chunks.from_array(np.ones((3, 3, 3), np.int32), self.folder / "n", 8, metadata={**self.PAIRS, "own": "x"}, names=names)
+        made = named.grid(((1, 1, 1), (2, 2, 2)))
+        self.assertEqual((made.names, {key: text for key, text in made.metadata.items() if "label" not in key}), (names, {**self.PAIRS, "own": "x"}))
+        self.assertEqual(named.map(lambda grid: vdb.labels.measure(grid).volume.tolist()), [[27.0]])  # by the sizes of voxels, 0.5, 2 and 1
+        many = {at: vdb.label_names.Label(f"{at:060}") for at in range(9)}
+        many = chunks.from_array(np.ones((3, 3, 3), np.int32), self.folder / "n", 8, names=many)
+        with self.assertWarnsRegex(vdb.VdbWarning, "n is read without the names of labels: the names of 9 labels have 566 characters"):
+            self.assertEqual(many.grid(((1, 1, 1), (2, 2, 2))).names, {})
+        made = volume.dilate(1, place)
         made.metadata["more"] = "y"  # a copy
         self.assertEqual(dict(other.metadata), {})
 
@@ -316,6 +326,8 @@ class Images(Case):
         for values, axes in ((np.zeros((2, 3, 3, 3)), list("tzyx")), (np.zeros((3, 3)), list("yx")), (np.zeros((3, 3, 3)), list("tzyx"))):
             with self.subTest(axes), self.assertRaisesRegex(vdb.VolumeError, f"an array with the axes {''.join(axes)} of the shape"):
                 self.written(self.ome(values, axes))
+        with self.assertRaisesRegex(vdb.VolumeError, "a coordinate transformation of the type affine, where identity, scale and translation are"):
+            self.written(self.ome(np.zeros((3, 3, 3)), list("zyx"), coordinateTransformations=[{"type": "identity"}, {"type": "affine"}]))
         self.assertFalse((self.folder / "a").exists())
 
 

@@ -8,6 +8,7 @@ import struct
 import tempfile
 import tracemalloc
 import unittest
+import warnings
 import zlib
 from pathlib import Path
 from unittest import mock
@@ -259,6 +260,23 @@ class Tiff(Formats):
             formats.save(path, scenefile.Grid("i32"))
         np.testing.assert_array_equal(tifffile.imread(path), values.T)
 
+    def test_sizes_of_voxels(self):
+        """ImageJ writes voxels a unit and their distance along z, OME the sizes. A stack of this package keeps the units with the affine."""
+        values, ours = numbers(np.uint8), {"photometric": "minisblack"}
+        for more, sizes, units in (
+            ({"imagej": True, "resolution": (2, 4), "metadata": {"axes": "ZYX", "spacing": 3, "unit": "micron"}}, (0.5, 0.25, 3), "um"),
+            ({"imagej": True, "metadata": {"axes": "ZYX", "spacing": 3, "unit": "mm"}}, (1, 1, 3), "mm"),
+            ({"imagej": True, "metadata": {"axes": "ZYX", "unit": "pixel"}}, None, ""), ({**ours, "ome": True, "metadata": {"axes": "ZYX"}}, None, ""),
+            ({**ours, "ome": True, "metadata": {"axes": "ZYX", "PhysicalSizeX": 0.5, "PhysicalSizeZ": 2}}, (0.5, 1, 2), "um"),
+            ({**ours, "ome": True, "metadata": {"axes": "ZYX", **{f"PhysicalSize{axis}": 0.5 for axis in "XYZ"}, **{f"PhysicalSize{axis}Unit": axis.lower() + "m" for axis in "XYZ"}}}, (0.5,) * 3, "xm,ym,zm"),
+        ):  # fmt: skip
+            with self.subTest(more):
+                path = self.made(values.T, **more)
+                self.holds(path, values, None if sizes is None else np.diag(sizes) @ np.eye(3, 4))
+                grid = formats.load(path, scenefile.Grid)
+                formats.save(self.folder / "b.tif", grid)
+                self.assertEqual((grid.metadata.get("image_units", ""), dict(formats.load(self.folder / "b.tif", scenefile.Grid).metadata)), (units, dict(grid.metadata)))
+
     def test_refused_stacks(self):
         self.refused(self.made(np.zeros((4, 5, 3), np.uint8), photometric="rgb"), "the axes YXS of the shape")
         self.refused(self.made(np.zeros((2, 3, 4, 5), np.uint8), imagej=True, metadata={"axes": "ZCYX"}), "the axes ZCYX of the shape")
@@ -312,6 +330,20 @@ class Nrrd(Formats):
         self.holds(self.made("a.nrrd", values, more="space: LAS\n" + place), values, AFFINE * [[-1], [1], [1]])
         self.holds(self.made("a.nrrd", values, more="space dimension: 3\n" + place), values, AFFINE)
         self.holds(self.made("a.nrrd", values, more="spacings: 2 NaN 0.5\n"), values, np.diag([2, 1, 0.5]) @ np.eye(3, 4))
+        for more, affine, units, warned in (
+            ('spacings: 2 3 4\nunits: "mm" "mm" "mm"\n', np.diag([2, 3, 4]) @ np.eye(3, 4), "mm", False),
+            ("spacings: 2 3 4\naxis mins: 5 6 7\n", np.diag([2, 3, 4]) @ np.eye(3, 4), "", True),
+            ("space dimension: 2\nspace directions: (1,0) (0,1) (0,0)\n", None, "", True),
+        ):  # fmt: skip
+            path = self.made("u.nrrd", values, more=more)
+            with warnings.catch_warnings(record=True) as caught:
+                warnings.simplefilter("always")
+                self.holds(path, values, affine)
+                self.assertEqual(formats.read(path).notes.get("image_units", ""), units)
+            self.assertEqual({"a place of this form isn't read, so it is lost" in str(it.message) for it in caught if it.category is vdb.VdbWarning}, {True} if warned else set())
+        head = self.HEAD.format(type="uint8", endian="little", encoding="raw").replace("dimension: 3\nsizes: 5 4 3", "dimension: 4\nsizes: 5 4 3 1")
+        path = self.written("four.nrrd", (head + "space: RAS\nspace directions: (2,0,0) (0,3,0) (0,0,4) none\nspace origin: (5,6,7)\n\n").encode() + bytes(60))
+        self.holds(path, np.zeros((5, 4, 3), np.uint8), np.array([[2, 0, 0, 5], [0, 3, 0, 6], [0, 0, 4, 7]]))
 
     def test_detached_values(self):
         values, head = numbers(np.int16), self.HEAD.format(type="short", endian="big", encoding="raw")

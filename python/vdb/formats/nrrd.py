@@ -10,12 +10,13 @@ import gzip
 import math
 import os
 import re
+import warnings
 from typing import BinaryIO, Dict, Optional, Tuple
 from urllib.parse import quote, unquote
 
 import numpy as np
 
-from ..errors import VolumeError
+from ..errors import VdbWarning, VolumeError
 from ..forms import TEXT_FORM
 from ..images import USUAL, identity, number_of
 from .volume import Volume, allow, check_room, flat, integers, planes, stored
@@ -63,6 +64,9 @@ def read(path: str, max_bytes: int, floats: bool = False) -> Volume:
     allow(sides, dtype, max_bytes)
     raw = values_of(data or path, 0 if data else begins, fields, math.prod(sides) * dtype.itemsize)
     affine = affine_of(fields)
+    lost = [name for name in ("space directions", "axis mins") if name.replace(" ", "") in fields]
+    if lost and (affine is None or lost == ["axis mins"]):
+        warnings.warn(f"{path}: a place of this form isn't read, so it is lost: {', '.join(lost)}", VdbWarning, stacklevel=4)
     notes = {} if affine is None else notes_of(fields)
     return Volume(integers(raw.view(dtype).reshape(sides, order="F"), floats=floats), affine, origin_of(fields), notes, dtype)
 
@@ -183,9 +187,9 @@ def affine_of(fields: Fields) -> Optional[np.ndarray]:
     made = identity()
     if "spacedirections" in fields:
         columns = [vector(text) for text in re.findall(r"\([^)]*\)|none", fields["spacedirections"])]
-        if len(columns) != 3 or any(len(column) != 3 for column in columns):
+        if len(columns) < 3 or any(len(column) != 3 for column in columns[:3]):
             return None
-        made[:, :3] = np.array(columns).T
+        made[:, :3] = np.array(columns[:3]).T
         made[:, 3] = vector(fields["spaceorigin"]) if "spaceorigin" in fields else 0
     elif "spacings" in fields:
         sizes = [float(word) for word in fields["spacings"].split()]
@@ -202,7 +206,7 @@ def signs_of(space: str) -> np.ndarray:
 
 def notes_of(fields: Fields) -> Dict[str, str]:
     """Returns the space and the units of a header, by the keys of vdb.images.NOTES."""
-    units = [quote(unit) for unit in re.findall(r'"([^"]*)"', fields.get("spaceunits", ""))]
+    units = [quote(unit) for unit in re.findall(r'"([^"]*)"', fields.get("spaceunits", fields.get("units", "")))][:3]
     space = fields.get("space", "")
     notes = {"image_space": RAS if space.lower() == "ras" else space, "image_units": ",".join(units[:1] if len({*units}) == 1 else units)}
     return {key: text for key, text in notes.items() if TEXT_FORM.match(text.encode())}

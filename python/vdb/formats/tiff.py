@@ -1,23 +1,29 @@
 # SPDX-License-Identifier: Apache-2.0
 """Stacks of TIFF images, a page for each z: `.tif` and `.tiff`. The package tifffile reads and writes them.
 
-The affine and the coordinate of the first voxel are kept in the description, as JSON; other programs ignore it.
+The affine, its units and the coordinate of the first voxel are kept in the description, as JSON; other programs ignore it. Of stacks of
+ImageJ and OME-TIFF the voxel sizes and their units are read.
 """
 from __future__ import annotations
 
 import math
 import os
+import re
 from types import SimpleNamespace
-from typing import Any, BinaryIO, Mapping
+from typing import Any, BinaryIO, Dict, List, Mapping
+from urllib.parse import quote
 
 import numpy as np
 
 from ..errors import VolumeError
 from ..forms import check_coordinate
+from ..images import identity
 from .volume import Volume, allow, check_room, flat, integers, package, quiet, stored
 
 UNCOMPRESSED = 1
 LOGGERS = ("tifffile", "tifffile.tifffile")
+#: How ImageJ and OME write the unit of lengths that NIfTI calls um.
+MICRONS = ("micron", "\u00b5m", "\\u00B5m")
 
 
 def tifffile() -> Any:
@@ -43,7 +49,26 @@ def read(path: str, max_bytes: int, floats: bool = False) -> Volume:
         if series.keyframe.compression == UNCOMPRESSED:
             check_room(size, math.prod(sides) * series.dtype.itemsize // (8 if series.dtype == np.bool_ else 1))
         values = integers(series.asarray().reshape(sides[::-1]).T, floats=floats)
-        return placed(values, (file.shaped_metadata or [{}])[0])._replace(dtype=series.dtype)
+        return placed(values, (file.shaped_metadata or [sizes_of(file)])[0])._replace(dtype=series.dtype)
+
+
+def sizes_of(file: Any) -> "Dict[str, Any]":
+    """Returns the affine and the units of the voxel sizes that ImageJ or OME wrote, if they did, as a description has them."""
+    if file.is_ome:
+        pixels = re.search(r"<(?:\w+:)?Pixels\b[^>]*>", file.ome_metadata)
+        found = dict(re.findall(r'\bPhysicalSize(\w+)="([^"]*)"', pixels[0] if pixels else ""))
+        sizes: List[Any] = [found.get(axis) for axis in "XYZ"]
+        units = [found.get(f"{axis}Unit", MICRONS[1]) for axis in "XYZ" if axis in found]
+    elif file.is_imagej:
+        about, tags = file.imagej_metadata or {}, file.pages[0].tags
+        ratios = [tags[name].value if name in tags else (1, 1) for name in ("XResolution", "YResolution")]
+        sizes, units = [*((below or 1) / (above or below or 1) for above, below in ratios), about.get("spacing")], [about.get("unit", "")]
+    else:
+        return {}
+    lengths = [abs(float(size or 1)) for size in sizes]
+    units = ["um" if unit in MICRONS else "" if unit == "pixel" else quote(unit) for unit in units]
+    told = units[0] if len({*units}) == 1 else ",".join(units) if len(units) == 3 and all(units) else ""
+    return {"affine": np.diag(lengths) @ identity(), "units": told} if told or lengths != [1, 1, 1] else {}
 
 
 def placed(values: np.ndarray, about: "Mapping[str, Any]") -> Volume:
@@ -51,7 +76,8 @@ def placed(values: np.ndarray, about: "Mapping[str, Any]") -> Volume:
     affine = np.array(about["affine"], np.float64) if "affine" in about else None
     if affine is not None and affine.shape != (3, 4):
         raise VolumeError(f"the affine of the description has the shape {affine.shape}, not (3, 4)")
-    return Volume(values, affine, check_coordinate(about["origin"], "origin") if "origin" in about else None)
+    notes = {"image_units": about["units"]} if about.get("units") else {}
+    return Volume(values, affine, check_coordinate(about["origin"], "origin") if "origin" in about else None, notes)
 
 
 def write(file: BinaryIO, _path: str, volume: Volume) -> None:
@@ -59,7 +85,9 @@ def write(file: BinaryIO, _path: str, volume: Volume) -> None:
     values = stored(volume.values)
     if not values.size:
         raise VolumeError("a stack of TIFF images has at least one voxel")
-    about = {} if volume.affine is None else {"affine": volume.affine.tolist(), "origin": volume.origin or (0, 0, 0)}
+    about: "Dict[str, Any]" = {}
+    if volume.affine is not None:
+        about = {"affine": volume.affine.tolist(), "origin": volume.origin or (0, 0, 0), "units": volume.notes.get("image_units", "")}
     pages = (np.ascontiguousarray(values[:, :, z].T) for z in range(values.shape[2]))
     # tifffile takes the name of a file for a path, and this one's is a number
     target = SimpleNamespace(write=file.write, seek=file.seek, tell=file.tell, flush=file.flush)
