@@ -62,7 +62,8 @@ def part_of(key: Key, bounds: "Callable[[], Optional[Bounds]]") -> Part:
         parts = (*parts[: dots[0]], *[slice(None)] * (4 - len(parts)), *parts[dots[0] + 1 :])
     if len(parts) != 3:
         is_mask = isinstance(key, (Voxels, np.ndarray))
-        given = f"{type(key).__name__}: where(mask) reads the voxels of a mask, and replace(vdb.Grid(grid.kind, background=6) | mask) makes them 6" if is_mask else repr(key)
+        instead = "where(mask) reads the voxels of a mask, and replace(vdb.Grid(grid.kind, background=6) | mask) makes them 6"
+        given = f"{type(key).__name__}: {instead}" if is_mask else repr(key)
         raise DtypeError(f"an index is three integers or slices x, y, z, not {given}")
     is_open = any(isinstance(part, slice) and None in (part.start, part.stop) for part in parts)
     low, high = is_open and bounds() or ((0, 0, 0), (-1, -1, -1))

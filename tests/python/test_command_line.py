@@ -317,8 +317,9 @@ class CommandLine(CommandCase):
         self.fails("convert", "a.vdbs", "b.vdbs", "--grid", "a", told="b.vdbs: one of IN and OUT is a scene file (.vdbs, .vdbs.gz), and not both")
         self.fails("convert", "in.npy", "b.nrrd", told="and neither is: convert in two steps, by a scene file")
         self.fails("convert", "a.vdbs", "b.txt", told="b.txt: the ending is none of .npy")
-        for bytes_of, told in ((data, "the ending is .npy, and the first bytes are those of a scene file, whose ending is .vdbs"), (data[1:], "no .npy file")):
-            (self.folder / "bad.npy").write_bytes(bytes_of)
+        scene = "the ending is .npy, and the first bytes are those of a scene file, whose ending is .vdbs"
+        for bad, told in ((data, scene), (data[1:], "no .npy file")):
+            (self.folder / "bad.npy").write_bytes(bad)
             self.fails("convert", "bad.npy", "b.vdbs", told=f"bad.npy: {told}")
         self.fails("convert", "in.npy", "bad.vdbs", "--grid", "a", told="truncated")
         np.save(self.folder / "float.npy", self.values * 0.5)

@@ -262,20 +262,23 @@ class Tiff(Formats):
 
     def test_sizes_of_voxels(self):
         """ImageJ writes voxels a unit and their distance along z, OME the sizes. A stack of this package keeps the units with the affine."""
-        values, ours = numbers(np.uint8), {"photometric": "minisblack"}
+        values, ours, ome = numbers(np.uint8), {"photometric": "minisblack"}, {}
+        for axis in "XYZ":
+            ome.update({f"PhysicalSize{axis}": 0.5, f"PhysicalSize{axis}Unit": f"{axis.lower()}m"})
         for more, sizes, units in (
             ({"imagej": True, "resolution": (2, 4), "metadata": {"axes": "ZYX", "spacing": 3, "unit": "micron"}}, (0.5, 0.25, 3), "um"),
             ({"imagej": True, "metadata": {"axes": "ZYX", "spacing": 3, "unit": "mm"}}, (1, 1, 3), "mm"),
             ({"imagej": True, "metadata": {"axes": "ZYX", "unit": "pixel"}}, None, ""), ({**ours, "ome": True, "metadata": {"axes": "ZYX"}}, None, ""),
             ({**ours, "ome": True, "metadata": {"axes": "ZYX", "PhysicalSizeX": 0.5, "PhysicalSizeZ": 2}}, (0.5, 1, 2), "um"),
-            ({**ours, "ome": True, "metadata": {"axes": "ZYX", **{f"PhysicalSize{axis}": 0.5 for axis in "XYZ"}, **{f"PhysicalSize{axis}Unit": axis.lower() + "m" for axis in "XYZ"}}}, (0.5,) * 3, "xm,ym,zm"),
+            ({**ours, "ome": True, "metadata": {"axes": "ZYX", **ome}}, (0.5, 0.5, 0.5), "xm,ym,zm"),
         ):  # fmt: skip
             with self.subTest(more):
                 path = self.made(values.T, **more)
                 self.holds(path, values, None if sizes is None else np.diag(sizes) @ np.eye(3, 4))
                 grid = formats.load(path, scenefile.Grid)
                 formats.save(self.folder / "b.tif", grid)
-                self.assertEqual((grid.metadata.get("image_units", ""), dict(formats.load(self.folder / "b.tif", scenefile.Grid).metadata)), (units, dict(grid.metadata)))
+                back = formats.load(self.folder / "b.tif", scenefile.Grid)
+                self.assertEqual((grid.metadata.get("image_units", ""), dict(back.metadata)), (units, dict(grid.metadata)))
 
     def test_refused_stacks(self):
         self.refused(self.made(np.zeros((4, 5, 3), np.uint8), photometric="rgb"), "the axes YXS of the shape")
@@ -340,7 +343,8 @@ class Nrrd(Formats):
                 warnings.simplefilter("always")
                 self.holds(path, values, affine)
                 self.assertEqual(formats.read(path).notes.get("image_units", ""), units)
-            self.assertEqual({"a place of this form isn't read, so it is lost" in str(it.message) for it in caught if it.category is vdb.VdbWarning}, {True} if warned else set())
+            told = {str(it.message).rpartition(", so it is ")[2][:4] for it in caught if it.category is vdb.VdbWarning}
+            self.assertEqual(told, {"lost"} if warned else set())
         head = self.HEAD.format(type="uint8", endian="little", encoding="raw").replace("dimension: 3\nsizes: 5 4 3", "dimension: 4\nsizes: 5 4 3 1")
         path = self.written("four.nrrd", (head + "space: RAS\nspace directions: (2,0,0) (0,3,0) (0,0,4) none\nspace origin: (5,6,7)\n\n").encode() + bytes(60))
         self.holds(path, np.zeros((5, 4, 3), np.uint8), np.array([[2, 0, 0, 5], [0, 3, 0, 6], [0, 0, 4, 7]]))
@@ -744,7 +748,8 @@ class Common(Formats):
         for changed, told in (
             ({}, ""), ({"affine": place + 1e-5}, ""), ({"affine": place + [[0, 0, 0, 0.5], [0] * 4, [0] * 4]}, "the affine"),
             ({"affine": place * 2}, "the affine"), ({"values": on[:, :, :2]}, r"the shape \(5, 4, 3\) and \(5, 4, 2\)"),
-            ({"origin": (-9, 3, 4091)}, r"the first voxel \(-9, 3, 4090\) and \(-9, 3, 4091\), the affine"), ({"affine": place @ np.vstack([moved, [0, 0, 0, 1]])}, "the affine"),
+            ({"origin": (-9, 3, 4091)}, r"the first voxel \(-9, 3, 4090\) and \(-9, 3, 4091\), the affine"),
+            ({"affine": place @ np.vstack([moved, [0, 0, 0, 1]])}, "the affine"),
         ):  # fmt: skip
             formats.write(self.folder / "on.nrrd", formats.Volume(on, place, LOW)._replace(**changed))
             with self.subTest(changed):
@@ -776,7 +781,8 @@ class Common(Formats):
         ):  # fmt: skip
             self.refused(self.written(name, begins), told)
         for name in ("a", "a.dat"):
-            self.refused(self.written(name, data), "the ending is none of .*, and the first bytes are those of NumPy, whose ending is .npy$", vdb.RangeError)
+            told = "the ending is none of .*, and the first bytes are those of NumPy, whose ending is .npy$"
+            self.refused(self.written(name, data), told, vdb.RangeError)
             with self.assertRaisesRegex(vdb.MagicFault, "those of NumPy, whose ending is .npy. For an image use vdb.formats.load"):
                 scenefile.load(self.folder / name)
         scenefile.Scene().save(self.folder / "a.vdbs.gz")

@@ -166,7 +166,8 @@ class Kept(CommandCase):
         (self.folder / "other.tsv").write_text("index\tname\n2\tEar\n")
         formats.save("other.nrrd", grid)
         self.assertEqual((self.folder / "other.tsv").read_text(), "index\tname\n2\tEar\n")
-        for table, told in (("".join(f"{at}\t{at:0>40}\n" for at in range(99)), "the names of 99 labels have 4,345"), ("x\tEar\n", "in.tsv: line 2: the index 'x'")):
+        many = "".join(f"{at}\t{at:0>40}\n" for at in range(99))
+        for table, told in ((many, "the names of 99 labels have 4,345"), ("x\tEar\n", "in.tsv: line 2: the index 'x'")):
             (self.folder / "in.tsv").write_text(f"index\tname\n{table}")
             with self.assertWarnsRegex(vdb.VdbWarning, f"in.npy is read without the names of labels: {told}"):
                 self.assertEqual(formats.load("in.npy", scenefile.Grid).names, {})

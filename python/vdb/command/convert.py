@@ -7,7 +7,8 @@ A scene file that exists keeps its other grids. A grid of the same name is repla
 metadata and root limit stay. A grid that was an image is written as that image, with its shape,
 dtype and place; any other grid as the bounding box of its active voxels. The origin and the
 shape are printed on standard error. Names of labels are copied from the table beside IN, the
-header of a .seg.nrrd, or metadata pairs, to a table beside OUT: OUT.GRID.tsv for a scene file OUT.vdbs."""
+header of a .seg.nrrd, or metadata pairs, to a table beside OUT: OUT.GRID.tsv for a scene file
+OUT.vdbs."""
 from __future__ import annotations
 
 import argparse
@@ -35,8 +36,8 @@ def add_arguments(parser: argparse.ArgumentParser) -> None:
     parser.add_argument("source", metavar="IN", help="the file to read")
     parser.add_argument("out", metavar="OUT", help="the file to write; - for a .npy on standard output")
     parser.add_argument("--grid", type=name_word, metavar="N", help="the name of the grid (default: the only grid of IN, or the name of the file IN)")
-    parser.add_argument("--active", metavar="MASK", help="the file for the states, booleans: read beside IN, whose voxels it must have (default: "
-                        "the voxels other than the background are active), or written beside OUT")  # fmt: skip
+    parser.add_argument("--active", metavar="MASK", help="the file for the states, booleans: read beside IN, whose voxels it must "
+                        "have (default: the voxels other than the background are active), or written beside OUT")  # fmt: skip
     parser.add_argument("--names", metavar="TABLE", help="names of labels: a .tsv of BIDS, a .seg.nrrd or a label file of ITK-SNAP (default: what "
                         "is beside IN or in it)")  # fmt: skip
     parser.add_argument("--digest", action="store_true", help="write the SHA-256 of the scene file OUT to OUT.sha256, which sha256sum -c checks; "

@@ -66,7 +66,7 @@ def read(path: str, max_bytes: int, floats: bool = False) -> Volume:
     affine = affine_of(fields)
     lost = [name for name in ("space directions", "axis mins") if name.replace(" ", "") in fields]
     if lost and (affine is None or lost == ["axis mins"]):
-        warnings.warn(f"{path}: a place of this form isn't read, so it is lost: {', '.join(lost)}", VdbWarning, stacklevel=4)
+        warnings.warn(f"{path}: a place of this form isn't read, so it is lost: {', '.join(lost)}", VdbWarning, stacklevel=5)
     notes = {} if affine is None else notes_of(fields)
     return Volume(integers(raw.view(dtype).reshape(sides, order="F"), floats=floats), affine, origin_of(fields), notes, dtype)
 

@@ -34,7 +34,7 @@ def read(path: str, max_bytes: int, floats: bool = False) -> Volume:
         if np.array_equal(zarr_stores.around([own, about["bounds"]]), own):  # type: ignore[arg-type]
             box = own
         else:
-            warnings.warn(f"{path}: active voxels lie outside the image, which becomes larger", VdbWarning, stacklevel=4)
+            warnings.warn(f"{path}: active voxels lie outside the image, which becomes larger", VdbWarning, stacklevel=5)
     allow(zarr_stores.sides(box), np.dtype(form.dtype), max_bytes)
     values, states = volume.read(box)
     low = check_box(box[0], values.shape)
