@@ -1,7 +1,7 @@
 -- Leaves that a call gives cells row by row.
-use Rattle.vdb_c.proofs.Common.{◌≡◌, ◌≢◌, ◌⊎◌, inl, inr, refl, sym, ap, ◌∙◌, subst, ℕ, ℤ, ◌+◌, ◌*◌, ◌<◌, ◌≤◌, ◌+ℤ◌, ◌≤ℤ◌, pos, arith, ints, Bool, true, false, not, IsTrue, List, length, get_or, Option, Some, slice_get, int_gap, int_le, offset, vdb, Box, coord, is_inside, Coord, inside_from, inside_parts, cell_in, Cell, off, IsInOneLeaf, place, Strides}
+use Rattle.vdb_c.proofs.Common.{◌≡◌, ◌≢◌, ◌⊎◌, inl, inr, refl, sym, ap, ◌∙◌, subst, ℕ, ℤ, ◌+◌, ◌*◌, ◌<◌, ◌≤◌, ◌+ℤ◌, pos, arith, ints, Bool, true, false, not, IsTrue, List, length, get_or, Option, Some, slice_get, int_gap, offset, vdb, Box, is_inside, Coord, cell_in, Cell, off, IsInOneLeaf, place, Strides}
 use Rattle.std.proofs.Common.{◌/◌, ◌%◌, ◌*ℤ◌}
-use Rattle.std.proofs.Math.Nat.{add-mul, div-one}
+use Rattle.std.proofs.Math.Nat.{div-one}
 use Rattle.std.specs.Option.{option_map_or}
 use Rattle.std.proofs.lemmas.Option.{slice_get-get_or}
 use Rattle.vdb_coord.specs.Components.{number_at}
@@ -10,7 +10,7 @@ use Rattle.vdb_coord.proofs.Division.{parts, rest, rest_below}
 use Rattle.vdb_coord.proofs.Positions.{offset_below}
 use Rattle.vdb_node.specs.Leaf.{Leaf}
 use Rattle.vdb_c.specs.FromBox.{HasCells, cell_at, cell_of_element, cells_of}
-use Rattle.vdb_c.proofs.Places.{place_at_most, reached}
+use Rattle.vdb_c.proofs.PartPlaces.{IsPartIn, at_inside, at_place, part_in, part_reach as reach, place_min, voxel_at, voxel_of}
 
 -- ---- elements
 
@@ -74,49 +74,19 @@ rest_along z n same =
 rest_small : (x : ℤ) → rest 8 x / 1 < 8
 rest_small x = subst (λ (r : ℕ). r < 8) (sym (div-one (rest 8 x))) (rest_below 8 x (omega arith))
 
-test : (low z : ℤ) → low ≤ℤ z → int_le low z ≡ true
-test low z h = grind (arith, ints)
-
-gap_along : (low z : ℤ) (n : ℕ) → low ≤ℤ z → int_gap low (z +ℤ pos n) ≡ int_gap low z + n
-gap_along low z n h = by low z (int_gap low z) (int_gap low (z +ℤ pos n)) (reached low z (test low z h)) (reached low (z +ℤ pos n) (test low (z +ℤ pos n) (omega (arith, ints, h))))
-  where
-    by : (low z : ℤ) (g g' : ℕ) → low +ℤ pos g ≡ z → low +ℤ pos g' ≡ z +ℤ pos n → g' ≡ g + n
-    by low z g g' e k = omega (arith, ints, e, k)
-
--- the voxel so many past another along each axis
-abbrev pub voxel_at : Coord → ℕ × (ℕ × ℕ) → Coord
-voxel_at p n = coord (p.x +ℤ pos n.0) (p.y +ℤ pos n.1.0) (p.z +ℤ pos n.1.1)
-
 -- a part of a box in one leaf extent: its least corner with its entry and its element, and how far its greatest corner is past it
 pub record IsPartAt (b : Box) (s : Strides) (part : Box) (p : Coord) (o first dx dy dz : ℕ) : Type 0 where
-  pub within : (q : Coord) → IsTrue (is_inside part q) → IsTrue (is_inside b q)
+  pub in_box : IsPartIn b s part p first dx dy dz
   pub block : IsInOneLeaf vdb part
-  pub inside : IsTrue (is_inside part p)
-  pub least : p ≡ part.min
-  pub x : p.x +ℤ pos dx ≡ part.max.x
-  pub y : p.y +ℤ pos dy ≡ part.max.y
-  pub z : p.z +ℤ pos dz ≡ part.max.z
   pub entry : o ≡ offset vdb leaf_level p
-  pub element : first ≡ place b s p
 
 pub part_at : (b : Box) (s : Strides) (part : Box) (p max : Coord) (o first dx dy dz : ℕ) → ((q : Coord) → IsTrue (is_inside part q) → IsTrue (is_inside b q)) → IsInOneLeaf vdb part → IsTrue (is_inside part p) → p ≡ part.min → max ≡ part.max
     → dx ≡ int_gap p.x max.x → dy ≡ int_gap p.y max.y → dz ≡ int_gap p.z max.z → o ≡ offset vdb leaf_level p → first ≡ place b s p → IsPartAt b s part p o first dx dy dz
-part_at b s part p max o first dx dy dz within block inside least greatest x y z entry element =
-    let own = inside_parts part p inside in
-    record {
-      within = within;
-      block = block;
-      inside = inside;
-      least = least;
-      x = end p.x max.x part.max.x dx x (ap (λ (m : Coord). m.x) greatest) own.0.1;
-      y = end p.y max.y part.max.y dy y (ap (λ (m : Coord). m.y) greatest) own.1.1;
-      z = end p.z max.z part.max.z dz z (ap (λ (m : Coord). m.z) greatest) own.2.1;
-      entry = entry;
-      element = element;
-    }
-  where
-    end : (low high top : ℤ) (n : ℕ) → n ≡ int_gap low high → high ≡ top → low ≤ℤ top → low +ℤ pos n ≡ top
-    end low high top n e same h = ap (λ (m : ℕ). low +ℤ pos m) e ∙ reached low high (test low high (subst (λ (m : ℤ). low ≤ℤ m) (sym same) h)) ∙ same
+part_at b s part p max o first dx dy dz within block inside least greatest x y z entry element = record {
+  in_box = part_in b s part p max first dx dy dz within inside least greatest x y z element;
+  block = block;
+  entry = entry;
+}
 
 module _ (b : Box) (s : Strides) (part : Box) (p : Coord) (o first dx dy dz : ℕ) (h : IsPartAt b s part p o first dx dy dz) where
   abbrev InPlane : ℕ × ℕ → Type 0
@@ -125,60 +95,23 @@ module _ (b : Box) (s : Strides) (part : Box) (p : Coord) (o first dx dy dz : �
   abbrev InPart : ℕ × (ℕ × ℕ) → Type 0
   InPart n = (n.0 < dx + 1) × InPlane n.1
 
-  at_inside : (n : ℕ × (ℕ × ℕ)) → InPart n → IsTrue (is_inside part (voxel_at p n))
-  at_inside n w =
-      let own = inside_parts part p h.inside in
-      inside_from part (voxel_at p n) (more part.min.x p.x n.0 own.0.0) (most p.x part.max.x n.0 dx h.x w.0) (more part.min.y p.y n.1.0 own.1.0) (most p.y part.max.y n.1.0 dy h.y w.1.0)
-      (more part.min.z p.z n.1.1 own.2.0) (most p.z part.max.z n.1.1 dz h.z w.1.1)
-    where
-      more : (low z : ℤ) (n : ℕ) → low ≤ℤ z → low ≤ℤ (z +ℤ pos n)
-      more low z n h = omega (arith, ints, h)
-
-      most : (low top : ℤ) (n m : ℕ) → low +ℤ pos m ≡ top → n < m + 1 → (low +ℤ pos n) ≤ℤ top
-      most low top n m e h = omega (arith, ints, e, h)
+  voxel_inside : (n : ℕ × (ℕ × ℕ)) → InPart n → IsTrue (is_inside part (voxel_at p n))
+  voxel_inside n w = at_inside b s part p first dx dy dz h.in_box n w
 
   at_offset : (n : ℕ × (ℕ × ℕ)) → InPart n → offset vdb leaf_level (voxel_at p n) ≡ o + 64 * n.0 + 8 * n.1.0 + n.1.1
   at_offset n w =
-      let same = h.block p (voxel_at p n) h.inside (at_inside n w) in
+      let same = h.block p (voxel_at p n) h.in_box.inside (voxel_inside n w) in
       by (rest 8 p.x / 1) (rest 8 p.y / 1) (rest 8 p.z / 1) (rest 8 (p.x +ℤ pos n.0) / 1) (rest 8 (p.y +ℤ pos n.1.0) / 1) (rest 8 (p.z +ℤ pos n.1.1) / 1) n.0 n.1.0 n.1.1 o h.entry
       (rest_along p.x n.0 (ap (λ (c : Coord). c.x) same)) (rest_along p.y n.1.0 (ap (λ (c : Coord). c.y) same)) (rest_along p.z n.1.1 (ap (λ (c : Coord). c.z) same))
     where
       by : (a c r a' c' r' i j k o : ℕ) → o ≡ (a * 8 + c) * 8 + r → a' ≡ a + i → c' ≡ c + j → r' ≡ r + k → (a' * 8 + c') * 8 + r' ≡ o + 64 * i + 8 * j + k
       by a c r a' c' r' i j k o e x y z = omega (arith, e, x, y, z)
 
-  at_place : (n : ℕ × (ℕ × ℕ)) → place b s (voxel_at p n) ≡ first + n.0 * s.x + n.1.0 * s.y + n.1.1 * s.z
-  at_place n =
-      let low = inside_parts b p (h.within p h.inside) in
-      by (int_gap b.min.x (p.x +ℤ pos n.0)) (int_gap b.min.y (p.y +ℤ pos n.1.0)) (int_gap b.min.z (p.z +ℤ pos n.1.1)) (int_gap b.min.x p.x) (int_gap b.min.y p.y) (int_gap b.min.z p.z) n.0 n.1.0 n.1.1 first h.element
-      (gap_along b.min.x p.x n.0 low.0.0) (gap_along b.min.y p.y n.1.0 low.1.0) (gap_along b.min.z p.z n.1.1 low.2.0)
-    where
-      by : (a c r a' c' r' i j k f : ℕ) → f ≡ a' * s.x + (c' * s.y + r' * s.z) → a ≡ a' + i → c ≡ c' + j → r ≡ r' + k → a * s.x + (c * s.y + r * s.z) ≡ f + i * s.x + j * s.y + k * s.z
-      by a c r a' c' r' i j k f e x y z =
-          let ex : a * s.x ≡ a' * s.x + i * s.x = ap (λ (m : ℕ). m * s.x) x ∙ add-mul a' i s.x in
-          let ey : c * s.y ≡ c' * s.y + j * s.y = ap (λ (m : ℕ). m * s.y) y ∙ add-mul c' j s.y in
-          let ez : r * s.z ≡ r' * s.z + k * s.z = ap (λ (m : ℕ). m * s.z) z ∙ add-mul r' k s.z in
-          omega (arith, e, ex, ey, ez)
-
-  voxel_of : (q : Coord) → IsTrue (is_inside part q) → (n : ℕ × (ℕ × ℕ)) × InPart n × (voxel_at p n ≡ q)
-  voxel_of q i =
-      let own = inside_parts part q i in
-      let low = subst (λ (m : Coord). (m.x ≤ℤ q.x) × ((m.y ≤ℤ q.y) × (m.z ≤ℤ q.z))) (sym h.least) (own.0.0, (own.1.0, own.2.0)) in
-      let x = reached p.x q.x (test p.x q.x low.0) in
-      let y = reached p.y q.y (test p.y q.y low.1.0) in
-      let z = reached p.z q.z (test p.z q.z low.1.1) in (
-        (int_gap p.x q.x, (int_gap p.y q.y, int_gap p.z q.z)),
-        (few p.x q.x part.max.x (int_gap p.x q.x) dx x h.x own.0.1, (few p.y q.y part.max.y (int_gap p.y q.y) dy y h.y own.1.1, few p.z q.z part.max.z (int_gap p.z q.z) dz z h.z own.2.1)),
-        λ k. coord (x k) (y k) (z k),
-      )
-    where
-      few : (low m top : ℤ) (g n : ℕ) → low +ℤ pos g ≡ m → low +ℤ pos n ≡ top → m ≤ℤ top → g < n + 1
-      few low m top g n e k l = omega (arith, ints, e, k, l)
-
   -- the last voxel of the first plane lies in the same rows of the leaf
   ends : (c : ℕ) × (r : ℕ) × (c < 8) × (r < 8) × ((a : ℕ) × (o ≡ a * 64 + c * 8 + r)) × (c + dy < 8) × (r + dz < 8)
   ends =
       let w : InPart (0, (dy, dz)) = (omega arith, (omega arith, omega arith)) in
-      let same = h.block p (voxel_at p (0, (dy, dz))) h.inside (at_inside (0, (dy, dz)) w) in
+      let same = h.block p (voxel_at p (0, (dy, dz))) h.in_box.inside (voxel_inside (0, (dy, dz)) w) in
       let y = rest_along p.y dy (ap (λ (c : Coord). c.y) same) in
       let z = rest_along p.z dz (ap (λ (c : Coord). c.z) same) in (
         rest 8 p.y / 1,
@@ -206,12 +139,7 @@ module _ (b : Box) (s : Strides) (part : Box) (p : Coord) (o first dx dy dz : �
       by m n e l = omega (arith, e, l)
 
   pub part_reach : (len : ℕ) → place b s b.max < len → (x y z : ℕ) → x < dx + 1 → y < dy + 1 → z < dz + 1 → first + x * s.x + y * s.y + z * s.z < len
-  part_reach len reach x y z k l m =
-      by (place b s (voxel_at p (x, (y, z)))) (first + x * s.x + y * s.y + z * s.z) (place b s b.max) (at_place (x, (y, z)))
-      (place_at_most b s (voxel_at p (x, (y, z))) (h.within (voxel_at p (x, (y, z))) (at_inside (x, (y, z)) (k, (l, m))))) reach
-    where
-      by : (m n top : ℕ) → m ≡ n → m ≤ top → top < len → n < len
-      by m n top e most reach = omega (arith, e, most, reach)
+  part_reach = reach b s part p first dx dy dz h.in_box
 
   pub plane_apart : (x n : ℕ) (i j : ℕ × ℕ) → n < x → InPlane i → InPlane j → o + 64 * x + 8 * j.0 + j.1 ≢ o + 64 * n + 8 * i.0 + i.1
   plane_apart x n i j less k l e = by ends.0 ends.1 i.0 i.1 j.0 j.1 ends.5 ends.6 k.0 k.1 l.0 l.1 e
@@ -227,14 +155,35 @@ module _ (b : Box) (s : Strides) (part : Box) (p : Coord) (o first dx dy dz : �
       → HasCells (λ (q : Coord). IsTrue (is_inside part q)) (offset vdb leaf_level) (λ q. cell (place b s q)) old new
   part_given cell old new m all given = record {
     within = λ q i.
-        let v = voxel_of q i in
+        let v = voxel_of b s part p first dx dy dz h.in_box q i in
         let first_below = v.1.0 in
-        subst (λ (r : Coord). new (offset vdb leaf_level r) ≡ cell (place b s r)) v.2 (ap new (at_offset v.0 v.1) ∙ given.within v.0 (omega (arith, first_below, all), v.1.1) ∙ sym (ap cell (at_place v.0)));
+        subst (λ (r : Coord). new (offset vdb leaf_level r) ≡ cell (place b s r)) v.2 (ap new (at_offset v.0 v.1) ∙ given.within v.0 (omega (arith, first_below, all), v.1.1) ∙ sym (ap cell (at_place b s part p first dx dy dz h.in_box v.0)));
     others = λ i l out. given.others i l (λ n w e.
         let below = w.0 in
         let k : InPart n = (omega (arith, below, all), w.1) in
-        out (voxel_at p n) (at_inside n k) (at_offset n k ∙ e));
+        out (voxel_at p n) (voxel_inside n k) (at_offset n k ∙ e));
   }
+
+-- the strides of the entries of a leaf
+abbrev pub leaf_strides : Strides
+leaf_strides = record { x = 64; y = 8; z = 1 }
+
+-- a part in one leaf extent: from the entry of its least corner on, its entries lie like the elements of an array of its own
+module _ (part : Box) (p : Coord) (o : ℕ) (inside : IsTrue (is_inside part p)) (least : p ≡ part.min) (block : IsInOneLeaf vdb part) (entry : o ≡ offset vdb leaf_level p) where
+  pub entry_from : (q : Coord) → IsTrue (is_inside part q) → o + place part leaf_strides q ≡ offset vdb leaf_level q
+  entry_from q i =
+      let at = part_at part leaf_strides part p part.max o 0 (int_gap p.x part.max.x) (int_gap p.y part.max.y) (int_gap p.z part.max.z) (λ r j. j) block inside least refl refl refl refl entry
+      (sym (ap (place part leaf_strides) least ∙ place_min part leaf_strides)) in
+      let v = voxel_of part leaf_strides part p 0 (int_gap p.x part.max.x) (int_gap p.y part.max.y) (int_gap p.z part.max.z) at.in_box q i in
+      let element = sym (ap (place part leaf_strides) v.2) ∙ at_place part leaf_strides part p 0 (int_gap p.x part.max.x) (int_gap p.y part.max.y) (int_gap p.z part.max.z) at.in_box v.0 in
+      let index = sym (ap (offset vdb leaf_level) v.2) ∙ at_offset part leaf_strides part p o 0 (int_gap p.x part.max.x) (int_gap p.y part.max.y) (int_gap p.z part.max.z) at v.0 v.1 in
+      by (place part leaf_strides q) (offset vdb leaf_level q) v.0.0 v.0.1.0 v.0.1.1 element index
+    where
+      by : (e f x y z : ℕ) → e ≡ 0 + x * 64 + y * 8 + z * 1 → f ≡ o + 64 * x + 8 * y + z → o + e ≡ f
+      by e f x y z h k = omega (arith, h, k)
+
+  pub entry_below : (q : Coord) → IsTrue (is_inside part q) → o + place part leaf_strides q < 512
+  entry_below q i = subst (λ (n : ℕ). n < 512) (sym (entry_from q i)) (offset_below vdb leaf_level q)
 
 -- ---- the leaf afterwards
 

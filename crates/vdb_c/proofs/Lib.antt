@@ -9,6 +9,8 @@ pub mod Filled
 pub mod NextVoxels
 pub mod NestedAxes
 pub mod Places
+pub mod PartPlaces
+pub mod Copies
 pub mod Laid
 pub mod RowsLaid
 pub mod PartsRead
@@ -19,7 +21,6 @@ pub mod LeafRows
 pub mod Ranks
 pub mod BoxFields
 pub mod RowFields
-pub mod CopiedRows
 pub mod LeafCopies
 pub mod LeafFields
 pub mod GivenLeaves

@@ -1,5 +1,5 @@
 -- Arrays that have a box of voxels.
-use Rattle.std.specs.Prelude.{◌≡◌, ◌≢◌, ◌+◌, ◌*◌, ◌<◌, ◌||◌, ◌&&◌, ℕ, Bool, IsTrue, List, length, get_or, nat_eq, nat_lt}
+use Rattle.std.specs.Prelude.{◌≡◌, ◌≢◌, ◌⊎◌, ◌+◌, ◌*◌, ◌<◌, ◌||◌, ◌&&◌, ℕ, Bool, IsTrue, List, length, get_or, nat_eq, nat_lt}
 use Rattle.std.specs.Int.{int_gap}
 use Rattle.vdb_coord.specs.Space.{Box}
 use Rattle.vdb_coord.specs.declared.Coord.{Coord}
@@ -47,3 +47,9 @@ module _ (b : Box) (s : Strides) where
     pub size : length new ≡ length old
     pub voxels : (p : Coord) (d : X) → IsTrue (within p) → place p < length old → get_or new (place p) d ≡ of p
     pub others : (i : ℕ) (d : X) → ((p : Coord) → IsTrue (within p) → place p ≢ i) → get_or new i d ≡ get_or old i d
+
+-- each of these elements of an array has one that belongs to it in another array, and every other stays
+pub record IsCopied {I X : Type 0} (Within : I → Type 0) (source target : I → ℕ) (from old new : List X) : Type 0 where
+  pub size : length new ≡ length old
+  pub each : (i : ℕ)
+      → ((n : I) × Within n × (target n ≡ i) × ((d : X) → get_or new i d ≡ get_or from (source n) d)) ⊎ (((n : I) → Within n → target n ≢ i) × ((d : X) → get_or new i d ≡ get_or old i d))

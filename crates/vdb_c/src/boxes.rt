@@ -7,6 +7,7 @@
 //! - `from_box`: a grid made of a box of an array's elements.
 
 pub(crate) mod arrays;
+pub(crate) mod copies;
 pub(crate) mod elements;
 pub(crate) mod from_box;
 pub(crate) mod leaf_writes;

@@ -12,10 +12,9 @@ ghost use Rattle.vdb_value.specs.declared.Cell.{Cell};
 ghost use Rattle.vdb_c.specs.Elements.{IsLaid, are_apart, has_places, place as place_of};
 ghost use Rattle.vdb_c.specs.Values.{state_byte};
 
-use crate::boxes::elements::{Strides, place};
-use crate::boxes::voxels::{next_voxel, row_end, row_size};
+use crate::boxes::copies::copy_part;
+use crate::boxes::elements::Strides;
 use crate::values::numbers::Number;
-use crate::voxels::arrays::store;
 use vdb_coord::{Bounds, Coord, Level};
 use vdb_node::Leaf;
 use vdb_pool::Steps;
@@ -58,11 +57,7 @@ impl<V: Number> Shown<V, V> for AsValue {
 impl<V: Number> Rows<V, V> for AsValue {
     #[inline(always)]
     fn copy_row(leaf: &Leaf<V, 3, 8>, from: u32, into: &mut [V]) {
-        if into.len() == 8 {
-            leaf.copy_values(from, &mut into[..8]); // a length that the compiler knows: a few moves and no call
-        } else {
-            leaf.copy_values(from, into);
-        }
+        leaf.copy_values(from, into);
     }
 }
 
@@ -141,20 +136,9 @@ fn copy_each<V: Number, T: Copy, S: Shown<V, T>>(leaf: &Leaf<V, 3, 8>, from: u32
     }
 }
 
-/// Returns the cell that a tile or a leaf has at a voxel.
-#[inline(always)]
-fn cell_at<V: Number>(content: &Content<V, &Leaf<V, 3, 8>>, p: Coord) -> Cell<V>
-    ensures { (d : Cell V) → content_cell vdb (λ leaf. cell_in d leaf.now) content.now p ≡ result }
-{
-    match content {
-        Content::Tile(cell) => *cell,
-        Content::Leaf(leaf) => leaf.entry(p.offset(Level::Leaf) as u32),
-    }
-}
-
-/// Writes what a tile or a leaf has in its part of a box to the part's elements, voxel by voxel.
-fn lay_voxels<V: Number, T: Copy, S: Shown<V, T>>(
-    content: &Content<V, &Leaf<V, 3, 8>>,
+/// Writes an element to each element of a part of a box.
+fn lay_tile<T: Copy>(
+    element: T,
     bounds: Bounds,
     strides: &Strides,
     part: Bounds,
@@ -162,36 +146,15 @@ fn lay_voxels<V: Number, T: Copy, S: Shown<V, T>>(
 )
     requires within { (q : Coord) → IsTrue (is_inside part q) → IsTrue (is_inside bounds q) }
     requires apart { IsTrue (are_apart bounds strides.now) }
-    requires reach { place_of bounds strides.now bounds.max < 2 ^ 64 }
-    ensures { (d : Cell V) → IsLaid bounds strides.now (is_inside part) (λ p. S.of (content_cell vdb (λ leaf. cell_in d leaf.now) content.now p)) out.old out.new }
+    requires places { place_of bounds strides.now bounds.max < length out.old }
+    ensures { IsLaid bounds strides.now (is_inside part) (λ p. element) out.old out.new }
 {
-    let max = part.max();
-    let stride = strides.z;
-    let mut p = part.min();
-    let mut index = place(bounds, strides, p);
-    'rows: loop {
-        'row: while p.z < max.z {
-            store(out, index, S::of(cell_at(content, p)));
-            p = Coord {
-                x: p.x,
-                y: p.y,
-                z: p.z + 1,
-            };
-            index += stride;
-        }
-        store(out, index, S::of(cell_at(content, p)));
-        match next_voxel(part, p) {
-            Some(next) => {
-                index = place(bounds, strides, next);
-                p = next;
-            }
-            None => return,
-        }
-    }
+    let steps = Strides { x: 0, y: 0, z: 0 };
+    copy_part(&[element], 0, &steps, out, bounds, strides, part);
 }
 
-/// Writes what a leaf has in its part of a box to the part's elements, row by row. The elements of a row follow one another.
-fn lay_rows<V: Number, T: Copy, S: Rows<V, T>>(
+/// Writes what a leaf has in its part of a box to the part's elements.
+fn lay_leaf<V: Number, T: Copy, S: Rows<V, T>>(
     leaf: &Leaf<V, 3, 8>,
     bounds: Bounds,
     strides: &Strides,
@@ -201,20 +164,14 @@ fn lay_rows<V: Number, T: Copy, S: Rows<V, T>>(
     requires within { (q : Coord) → IsTrue (is_inside part q) → IsTrue (is_inside bounds q) }
     requires apart { IsTrue (are_apart bounds strides.now) }
     requires places { place_of bounds strides.now bounds.max < length out.old }
-    requires along { strides.now.z ≡ 1 }
     requires block { IsInOneLeaf vdb part }
     ensures { (d : Cell V) → IsLaid bounds strides.now (is_inside part) (λ p. S.of (cell_in d leaf.now (offset vdb leaf_level p))) out.old out.new }
 {
-    let mut p = part.min();
-    'rows: loop {
-        let first = place(bounds, strides, p);
-        let behind = first + row_size(part, p);
-        S::copy_row(leaf, p.offset(Level::Leaf) as u32, &mut out[first..behind]);
-        match next_voxel(part, row_end(part, p)) {
-            Some(next) => p = next,
-            None => return,
-        }
-    }
+    let mut elements = [S::of(leaf.entry(0)); 512];
+    S::copy_row(leaf, 0, &mut elements);
+    let steps = Strides { x: 64, y: 8, z: 1 };
+    let first = part.min().offset(Level::Leaf) as usize;
+    copy_part(&elements, first, &steps, out, bounds, strides, part);
 }
 
 /// Writes what a tile or a leaf has in its part of a box to the part's elements. An empty array isn't written.
@@ -235,10 +192,8 @@ fn lay_part<V: Number, T: Copy, S: Rows<V, T>>(
         return;
     }
     match content {
-        Content::Leaf(leaf) if strides.z == 1 => {
-            lay_rows::<V, T, S>(leaf, bounds, strides, part, out)
-        }
-        _ => lay_voxels::<V, T, S>(content, bounds, strides, part, out),
+        Content::Leaf(leaf) => lay_leaf::<V, T, S>(leaf, bounds, strides, part, out),
+        Content::Tile(cell) => lay_tile(S::of(*cell), bounds, strides, part, out),
     }
 }
 

@@ -1,0 +1,10 @@
+use Rattle.vdb_c.proofs.Common.{◌≡◌, [], ◌∷◌, arith, refl, subst, sym, ℕ, get_or}
+use Rattle.vdb_c.proofs.PartPlaces.{place_none}
+use Rattle.vdb_c.proofs.boxes.reading.lay_tile.Goals as goal
+
+pub copy_part-requires-clause-sources : goal.copy_part-requires-clause-sources
+copy_part-requires-clause-sources g c = let none = place_none c.args.part c.args.part.max in omega (arith, none)
+
+pub returns : goal.returns
+returns g c =
+    c.copy_part.ensures (λ q. c.args.element) (λ q e i. subst (λ (n : ℕ). get_or (c.args.element ∷ []) n e ≡ c.args.element) (sym (place_none c.args.part q)) refl)
