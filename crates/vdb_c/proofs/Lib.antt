@@ -21,6 +21,7 @@ pub mod LeafRows
 pub mod Ranks
 pub mod BoxFields
 pub mod RowFields
+pub mod CopiedRows
 pub mod LeafCopies
 pub mod LeafFields
 pub mod GivenLeaves

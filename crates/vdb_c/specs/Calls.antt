@@ -127,7 +127,7 @@ abbrev pub PrunesWithoutMemory : AnyGrid → Result (Unit {0}) TreeRefusal → T
 PrunesWithoutMemory new result = result ≡ Err trees.Memory → IsPruned new
 
 -- No cell changed, and each active voxel of the box lies in a leaf if the call succeeded, which only an allocation prevents. The grid is pruned
--- then.
+-- after an error.
 abbrev pub IsVoxelisedOr : AnyGrid → AnyGrid → Box → Result (Unit {0}) TreeRefusal → Type 0
 IsVoxelisedOr old new box result = (grid_field new ≡ grid_field old) × OnOk result (IsVoxelised new box) × IfErr result (λ r. r ≡ trees.Memory) × IfErr result (λ _. IsPruned new)
 

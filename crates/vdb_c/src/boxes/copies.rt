@@ -106,8 +106,6 @@ fn copy_plane<T: Copy>(
         copy_lines(from, at, u, 0, into, to, v, 1, lines, 8)
     } else if strides.z == 1 && steps.z == 0 {
         copy_lines(from, at, u, 0, into, to, v, 1, lines, count)
-    } else if strides.z == 1 && steps.z == 1 && count == 8 {
-        copy_lines(from, at, u, 1, into, to, v, 1, lines, 8)
     } else if strides.z == 1 && steps.z == 64 && count == 8 {
         copy_lines(from, at, u, 64, into, to, v, 1, lines, 8)
     } else {

@@ -1,4 +1,6 @@
 //! A box of a tree read into arrays.
+ghost use Rattle.std.proofs.Common.{arith};
+ghost use Rattle.std.specs.Mem.{type_size};
 ghost use Rattle.std.specs.Prelude.{◌≡◌, ◌+◌, ◌<◌, ◌≤◌, ◌^◌, ◌&&◌, ℕ, IsSome, IsTrue, length, not, slice_index_or};
 ghost use Rattle.vdb_coord.specs.Blocks.{key, offset, vdb};
 ghost use Rattle.vdb_coord.specs.Space.{is_inside};
@@ -13,8 +15,10 @@ ghost use Rattle.vdb_c.specs.Elements.{IsLaid, are_apart, has_places, place as p
 ghost use Rattle.vdb_c.specs.Values.{state_byte};
 
 use crate::boxes::copies::copy_part;
-use crate::boxes::elements::Strides;
+use crate::boxes::elements::{Strides, place};
+use crate::boxes::voxels::{is_wide, next_voxel, row_end, row_size};
 use crate::values::numbers::Number;
+use crate::voxels::arrays::store;
 use vdb_coord::{Bounds, Coord, Level};
 use vdb_node::Leaf;
 use vdb_pool::Steps;
@@ -38,6 +42,9 @@ pub(crate) trait Rows<V: Number, T: Copy>: Shown<V, T> {
         requires { from + length into.old ≤ 512 }
         ensures length { length into.new ≡ length into.old }
         ensures elements { (d : Cell V) (i : ℕ) (e : T) → i < length into.old → slice_index_or into.new i e ≡ Self.of (cell_in d leaf.now (from + i)) };
+
+    /// An element takes at most eight bytes.
+    ghost small: { type_size T.row ≤ 8 };
 }
 
 /// The value.
@@ -55,9 +62,15 @@ impl<V: Number> Shown<V, V> for AsValue {
 }
 
 impl<V: Number> Rows<V, V> for AsValue {
+    ghost small = { V.small.0 };
+
     #[inline(always)]
     fn copy_row(leaf: &Leaf<V, 3, 8>, from: u32, into: &mut [V]) {
-        leaf.copy_values(from, into);
+        if into.len() == 8 {
+            leaf.copy_values(from, &mut into[..8]); // a length that the compiler knows: a few moves and no call
+        } else {
+            leaf.copy_values(from, into);
+        }
     }
 }
 
@@ -76,6 +89,8 @@ impl<V: Number> Shown<V, i64> for AsNumber {
 }
 
 impl<V: Number> Rows<V, i64> for AsNumber {
+    ghost small = { Prim.omega arith };
+
     #[inline(always)]
     fn copy_row(leaf: &Leaf<V, 3, 8>, from: u32, into: &mut [i64]) {
         copy_each::<V, i64, AsNumber>(leaf, from, into);
@@ -97,6 +112,8 @@ impl Shown<bool, u8> for AsByte {
 }
 
 impl Rows<bool, u8> for AsByte {
+    ghost small = { Prim.omega arith };
+
     #[inline(always)]
     fn copy_row(leaf: &Leaf<bool, 3, 8>, from: u32, into: &mut [u8]) {
         copy_each::<bool, u8, AsByte>(leaf, from, into);
@@ -118,6 +135,8 @@ impl<V: Number> Shown<V, u8> for AsState {
 }
 
 impl<V: Number> Rows<V, u8> for AsState {
+    ghost small = { Prim.omega arith };
+
     #[inline(always)]
     fn copy_row(leaf: &Leaf<V, 3, 8>, from: u32, into: &mut [u8]) {
         copy_each::<V, u8, AsState>(leaf, from, into);
@@ -136,9 +155,58 @@ fn copy_each<V: Number, T: Copy, S: Shown<V, T>>(leaf: &Leaf<V, 3, 8>, from: u32
     }
 }
 
-/// Writes an element to each element of a part of a box.
-fn lay_tile<T: Copy>(
-    element: T,
+/// Returns the cell that a tile or a leaf has at a voxel.
+#[inline(always)]
+fn cell_at<V: Number>(content: &Content<V, &Leaf<V, 3, 8>>, p: Coord) -> Cell<V>
+    ensures { (d : Cell V) → content_cell vdb (λ leaf. cell_in d leaf.now) content.now p ≡ result }
+{
+    match content {
+        Content::Tile(cell) => *cell,
+        Content::Leaf(leaf) => leaf.entry(p.offset(Level::Leaf) as u32),
+    }
+}
+
+/// Writes what a tile or a leaf has in its part of a box to the part's elements, voxel by voxel.
+fn lay_voxels<V: Number, T: Copy, S: Shown<V, T>>(
+    content: &Content<V, &Leaf<V, 3, 8>>,
+    bounds: Bounds,
+    strides: &Strides,
+    part: Bounds,
+    out: &mut [T],
+)
+    requires within { (q : Coord) → IsTrue (is_inside part q) → IsTrue (is_inside bounds q) }
+    requires apart { IsTrue (are_apart bounds strides.now) }
+    requires reach { place_of bounds strides.now bounds.max < 2 ^ 64 }
+    ensures { (d : Cell V) → IsLaid bounds strides.now (is_inside part) (λ p. S.of (content_cell vdb (λ leaf. cell_in d leaf.now) content.now p)) out.old out.new }
+{
+    let max = part.max();
+    let stride = strides.z;
+    let mut p = part.min();
+    let mut index = place(bounds, strides, p);
+    'rows: loop {
+        'row: while p.z < max.z {
+            store(out, index, S::of(cell_at(content, p)));
+            p = Coord {
+                x: p.x,
+                y: p.y,
+                z: p.z + 1,
+            };
+            index += stride;
+        }
+        store(out, index, S::of(cell_at(content, p)));
+        match next_voxel(part, p) {
+            Some(next) => {
+                index = place(bounds, strides, next);
+                p = next;
+            }
+            None => return,
+        }
+    }
+}
+
+/// Writes what a leaf has in its part of a box to the part's elements, row by row. The elements of a row follow one another.
+fn lay_rows<V: Number, T: Copy, S: Rows<V, T>>(
+    leaf: &Leaf<V, 3, 8>,
     bounds: Bounds,
     strides: &Strides,
     part: Bounds,
@@ -147,13 +215,41 @@ fn lay_tile<T: Copy>(
     requires within { (q : Coord) → IsTrue (is_inside part q) → IsTrue (is_inside bounds q) }
     requires apart { IsTrue (are_apart bounds strides.now) }
     requires places { place_of bounds strides.now bounds.max < length out.old }
-    ensures { IsLaid bounds strides.now (is_inside part) (λ p. element) out.old out.new }
+    requires along { strides.now.z ≡ 1 }
+    requires block { IsInOneLeaf vdb part }
+    ensures { (d : Cell V) → IsLaid bounds strides.now (is_inside part) (λ p. S.of (cell_in d leaf.now (offset vdb leaf_level p))) out.old out.new }
 {
+    let mut p = part.min();
+    'rows: loop {
+        let first = place(bounds, strides, p);
+        let behind = first + row_size(part, p);
+        S::copy_row(leaf, p.offset(Level::Leaf) as u32, &mut out[first..behind]);
+        match next_voxel(part, row_end(part, p)) {
+            Some(next) => p = next,
+            None => return,
+        }
+    }
+}
+
+/// Writes what a tile has in its part of a box to the part's elements.
+fn lay_tile<V: Number, T: Copy, S: Rows<V, T>>(
+    cell: Cell<V>,
+    bounds: Bounds,
+    strides: &Strides,
+    part: Bounds,
+    out: &mut [T],
+)
+    requires within { (q : Coord) → IsTrue (is_inside part q) → IsTrue (is_inside bounds q) }
+    requires apart { IsTrue (are_apart bounds strides.now) }
+    requires places { place_of bounds strides.now bounds.max < length out.old }
+    ensures { IsLaid bounds strides.now (is_inside part) (λ p. S.of cell) out.old out.new }
+{
+    let element = S::of(cell);
     let steps = Strides { x: 0, y: 0, z: 0 };
     copy_part(&[element], 0, &steps, out, bounds, strides, part);
 }
 
-/// Writes what a leaf has in its part of a box to the part's elements.
+/// Writes what a leaf has in its part of a box to the part's elements, by a copy of all its elements.
 fn lay_leaf<V: Number, T: Copy, S: Rows<V, T>>(
     leaf: &Leaf<V, 3, 8>,
     bounds: Bounds,
@@ -192,8 +288,14 @@ fn lay_part<V: Number, T: Copy, S: Rows<V, T>>(
         return;
     }
     match content {
-        Content::Leaf(leaf) => lay_leaf::<V, T, S>(leaf, bounds, strides, part, out),
-        Content::Tile(cell) => lay_tile(S::of(*cell), bounds, strides, part, out),
+        Content::Leaf(leaf) if strides.z == 1 => {
+            lay_rows::<V, T, S>(leaf, bounds, strides, part, out)
+        }
+        Content::Leaf(leaf) if is_wide(part) => {
+            lay_leaf::<V, T, S>(leaf, bounds, strides, part, out)
+        }
+        Content::Tile(cell) => lay_tile::<V, T, S>(*cell, bounds, strides, part, out),
+        _ => lay_voxels::<V, T, S>(content, bounds, strides, part, out),
     }
 }
 
