@@ -1,5 +1,5 @@
 -- Elements that a call copies, line by line and plane by plane.
-use Rattle.vdb_c.proofs.Common.{◌≡◌, ◌≢◌, ◌⊎◌, inl, inr, refl, sym, ap, ◌∙◌, subst, ℕ, ◌+◌, ◌*◌, ◌<◌, List, length, get_or, set, arith, get_or-set_same, get_or-set_other, length-set}
+use Rattle.vdb_c.proofs.Common.{◌≡◌, ◌≢◌, ◌⊎◌, inl, inr, refl, sym, ap, ◌∙◌, ℕ, ◌+◌, ◌<◌, List, length, get_or, set, arith, get_or-set_same, get_or-set_other, length-set}
 use Rattle.vdb_c.specs.Elements.{IsCopied}
 
 below_or_last : (m n : ℕ) → m < n + 1 → (m < n) ⊎ (m ≡ n)

@@ -1,4 +1,4 @@
-use Rattle.vdb_c.proofs.Common.{◌≡◌, ◌∙◌, ◌+◌, ◌<◌, ℕ, IsTrue, ap, arith, both, is_inside, length, min_inside, offset, place, vdb, cell_in, Coord}
+use Rattle.vdb_c.proofs.Common.{◌≡◌, ◌∙◌, ◌+◌, ℕ, IsTrue, ap, arith, both, is_inside, min_inside, offset, place, vdb, cell_in}
 use Rattle.vdb_coord.specs.declared.Level.TheVariants.{Leaf as leaf_level}
 use Rattle.vdb_c.proofs.GivenLeaves.{entry_below, entry_from, leaf_strides}
 use Rattle.vdb_c.proofs.Places.{max_inside}
