@@ -1,5 +1,5 @@
 -- The elements of the voxels of a part of a box.
-use Rattle.vdb_c.proofs.Common.{◌≡◌, ◌≢◌, ◌⊎◌, inl, inr, sym, ap, ◌∙◌, subst, ℕ, ℤ, ◌+◌, ◌*◌, ◌<◌, ◌≤◌, ◌+ℤ◌, ◌≤ℤ◌, pos, arith, ints, true, IsTrue, List, get_or, int_gap, int_le, Box, coord, is_inside, Coord, inside_from, inside_parts, IsLaid, are_apart, place, Strides}
+use Rattle.vdb_c.proofs.Common.{◌≡◌, ◌≢◌, ◌⊎◌, inl, inr, sym, ap, ◌∙◌, subst, ℕ, ℤ, ◌+◌, ◌*◌, ◌<◌, ◌≤◌, ◌+ℤ◌, ◌≤ℤ◌, pos, arith, ints, true, IsTrue, List, get_or, int_gap, int_le, is_bounds, Box, coord, everywhere, is_box, is_inside, is_within, Coord, both, min_inside, inside_from, inside_parts, IsLaid, are_apart, place, Strides}
 use Rattle.vdb_c.specs.Elements.{IsCopied}
 use Rattle.std.proofs.Common.{negsuc}
 use Rattle.std.proofs.Math.Nat.{add-mul}
@@ -115,9 +115,12 @@ place_none b p = by (int_gap b.min.x p.x) (int_gap b.min.y p.y) (int_gap b.min.z
     by : (a c r : ℕ) → a * 0 + (c * 0 + r * 0) ≡ 0
     by a c r = omega arith
 
--- a part by itself
-pub part_self : (t : Strides) (part : Box) (p max : Coord) (dx dy dz : ℕ) → IsTrue (is_inside part p) → p ≡ part.min → max ≡ part.max → dx ≡ int_gap p.x max.x → dy ≡ int_gap p.y max.y → dz ≡ int_gap p.z max.z → IsPartIn part t part p 0 dx dy dz
-part_self t part p max dx dy dz inside least greatest x y z = part_in part t part p max 0 dx dy dz (λ q i. i) inside least greatest x y z (sym (ap (place part t) least ∙ place_min part t))
+-- a part by itself, and in a box
+pub both_sides : (t : Strides) (b : Box) (s : Strides) (part : Box) (p max : Coord) (to dx dy dz : ℕ) → ((q : Coord) → IsTrue (is_inside part q) → IsTrue (is_inside b q)) → IsTrue (is_bounds part) → p ≡ part.min → max ≡ part.max
+    → dx ≡ int_gap p.x max.x → dy ≡ int_gap p.y max.y → dz ≡ int_gap p.z max.z → to ≡ place b s p → IsPartIn part t part p 0 dx dy dz × IsPartIn b s part p to dx dy dz
+both_sides t b s part p max to dx dy dz within bounds least greatest x y z element =
+    let inside = subst (λ (q : Coord). IsTrue (is_inside part q)) (sym least) (min_inside part (both (is_box part) (is_within part everywhere) bounds).0) in
+    (part_in part t part p max 0 dx dy dz (λ q i. i) inside least greatest x y z (sym (ap (place part t) least ∙ place_min part t)), part_in b s part p max to dx dy dz within inside least greatest x y z element)
 
 -- the elements of a part that are copied: from an element on, and to those in an array
 module _ (t : Strides) (b : Box) (s : Strides) (part : Box) (p : Coord) (at to dx dy dz : ℕ) (source : IsPartIn part t part p 0 dx dy dz) (target : IsPartIn b s part p to dx dy dz) where
