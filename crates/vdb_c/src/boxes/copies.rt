@@ -81,7 +81,15 @@ fn copy_lines<T: Copy>(
     ensures { IsCopied (λ (n : ℕ × ℕ). (n.0 < lines) × (n.1 < count)) (λ n. at + n.0 * step_y + n.1 * step) (λ n. to + n.0 * stride_y + n.1 * stride) from.now into.old into.new }
 {
     'lines: for y in 0..lines {
-        copy_line(from, at + y * step_y, step, into, to + y * stride_y, stride, count);
+        copy_line(
+            from,
+            at + y * step_y,
+            step,
+            into,
+            to + y * stride_y,
+            stride,
+            count,
+        );
     }
 }
 
@@ -166,7 +174,8 @@ pub(crate) fn copy_part<T: Copy>(
     let min = part.min();
     let to = place(bounds, strides, min);
     let (dx, dy, dz) = gaps(min, part.max());
-    if strides.x == 1 {
+    let along_x = dx != 0 && strides.x == 1;
+    if along_x {
         let steps = Strides {
             x: steps.z,
             y: steps.y,
@@ -177,12 +186,8 @@ pub(crate) fn copy_part<T: Copy>(
             y: strides.y,
             z: strides.x,
         };
-        copy_planes(
-            from, at, &steps, into, to, &strides, dz + 1, dy + 1, dx + 1,
-        );
+        copy_planes(from, at, &steps, into, to, &strides, dz + 1, dy + 1, dx + 1);
     } else {
-        copy_planes(
-            from, at, steps, into, to, strides, dx + 1, dy + 1, dz + 1,
-        );
+        copy_planes(from, at, steps, into, to, strides, dx + 1, dy + 1, dz + 1);
     }
 }

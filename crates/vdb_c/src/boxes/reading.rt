@@ -232,6 +232,7 @@ fn lay_rows<V: Number, T: Copy, S: Rows<V, T>>(
 }
 
 /// Writes what a tile has in its part of a box to the part's elements.
+#[inline(never)]
 fn lay_tile<V: Number, T: Copy, S: Rows<V, T>>(
     cell: Cell<V>,
     bounds: Bounds,
@@ -250,6 +251,7 @@ fn lay_tile<V: Number, T: Copy, S: Rows<V, T>>(
 }
 
 /// Writes what a leaf has in its part of a box to the part's elements, by a copy of all its elements.
+#[inline(never)]
 fn lay_leaf<V: Number, T: Copy, S: Rows<V, T>>(
     leaf: &Leaf<V, 3, 8>,
     bounds: Bounds,
