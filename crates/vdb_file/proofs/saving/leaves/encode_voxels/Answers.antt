@@ -1,9 +1,9 @@
-use Rattle.vdb_file.proofs.Common.{arith, ◌≡◌, ◌<◌, ◌∙◌, ℕ, ◌+◌, ◌*◌, ◌-◌, ◌^◌, rules, sym, subst, ap, List, Bool, true, beq, length, cell_in, Cell, cell_bytes, numbered, passing}
+use Rattle.vdb_file.proofs.Common.{arith, ◌≡◌, ◌<◌, ◌∙◌, ℕ, ◌+◌, ◌*◌, ◌-◌, ◌^◌, rules, sym, subst, ap, List, Bool, true, false, beq, length, cell_in, Cell, cell_bytes, numbered, passing}
+use Rattle.std.specs.Int.{bit_at}
 use Rattle.std.specs.Prelude.{slice_index_or}
 use Rattle.std.proofs.Common.{◌==◌}
 use Rattle.std.proofs.lemmas.Bool.{eqb-true}
 use Rattle.std.proofs.lemmas.Nat.Bits.{bit_at_ones}
-use Rattle.vdb_mask.specs.Mask.{has_bit, is_on}
 use Rattle.vdb_file.proofs.LeafVoxels.{AreEncoded, cell_from, none_encoded, one_encoded, one_passed, stands}
 use Rattle.vdb_file.proofs.Passing.{passing_few}
 use Rattle.vdb_file.proofs.saving.leaves.encode_voxels.Goals as goal
@@ -30,7 +30,7 @@ pub is_unlike-requires : goal.is_unlike-requires
 is_unlike-requires g c told =
     let h = c.row-test.true in
     let whole : c.word-all.result ≡ 2 ^ 64 - 1 = eqb-true c.word-all.result (2 ^ 64 - 1) told in
-    let on : is_on c.states-states.result.now (64 * c.rows.k + c.row.j) ≡ true = c.word-all.ensures c.row.j h ∙ ap (λ w. has_bit w c.row.j) whole ∙ ap (λ (n : ℕ). n == 1) (bit_at_ones 64 c.row.j h) in
+    let on : slice_index_or c.states-states.result.now (64 * c.rows.k + c.row.j) false ≡ true = c.word-all.ensures c.row.j h ∙ ap (λ (w : ℕ). bit_at w c.row.j == 1) whole ∙ ap (λ (n : ℕ). n == 1) (bit_at_ones 64 c.row.j h) in
     ap (λ (b : Bool). beq b c.args.background.on) (sym c.test.ensures ∙ on) ∙ ap (beq true) c.requires.inactive
 
 pub row-preserved : goal.row-preserved
@@ -49,7 +49,7 @@ row-preserved g c =
     let value = slice_index_or c.copy_values.new.into c.row.j read in
     let at : (d : Cell g.row.V.Denot) → cell_in d leaf i ≡ record { value = value; on = c.test.result } =
     λ d. cell_from leaf i d value c.test.result (sym (c.copy_values.ensures.values d c.row.j read (first_of (omega (arith, h), search (rules, h)))))
-    (ap (λ (m : List Bool). is_on m i) (sym c.states-states.ensures.same) ∙ c.test.ensures) in
+    (ap (λ (m : List Bool). slice_index_or m i false) (sym c.states-states.ensures.same) ∙ c.test.ensures) in
     elim c.if-is_unlike.branch [
       | then-is_unlike w ↦
           let put = w.put_voxel-len in
