@@ -277,7 +277,8 @@ def plain(found):
 
 class Same(unittest.TestCase):
     NAMES = (
-        "active active_coordinates background bounds boxes copy count dtype from_array image kind labels leaf_count leaves limit metadata to_array"
+        "active active_coordinates background bounds boxes copy count dtype from_array image kind labels leaf_count leaves limit metadata names"
+        " to_array"
     )
 
     @needs_library
@@ -285,7 +286,7 @@ class Same(unittest.TestCase):
         """Names, arguments, and results with their types."""
         values, active = sample(3)
         active[0, 0, 0] = True
-        pairs = {"unit": "mm", "image_array": "int64,{},{},{}".format(*SHAPE), "image_low": "{},{},{}".format(*LOW)}
+        pairs = {"unit": "mm", "label_names_1": "3:ear", "image_array": "int64,{},{},{}".format(*SHAPE), "image_low": "{},{},{}".format(*LOW)}
         one, other = (package.Grid.from_array(values, active, LOW, 5, 9, pairs) for package in (vdb, scenefile))
         shared = sorted(name for name in {*dir(one)} & {*dir(other)} if not name.startswith("_"))
         self.assertEqual(" ".join(shared), self.NAMES)
