@@ -137,15 +137,27 @@ def boxes(parts: Iterator[Part]) -> Iterator[Boxes]:
 
 def runs(rows: Rows) -> Boxes:
     """Returns the runs along z of active voxels of one value in leaves."""
-    values, active = rows.values.ravel(), rows.active.ravel()
-    goes_on = active[1:] & active[:-1] & (values[1:] == values[:-1])
-    goes_on[7::8] = False
-    first, last = active.copy(), active.copy()
-    first[1:] &= ~goes_on
-    last[:-1] &= ~goes_on
-    begins, ends = np.flatnonzero(first), np.flatnonzero(last)
+    begins, ends = ends_of(rows.values.ravel(), rows.active.ravel(), 8)
     origins = rows.origins[begins >> 9]
-    return Boxes(origins + OFFSETS[begins & 511], origins + OFFSETS[ends & 511], values[begins])
+    return Boxes(origins + OFFSETS[begins & 511], origins + OFFSETS[ends & 511], rows.values.ravel()[begins])
+
+
+def ends_of(values: np.ndarray, active: np.ndarray, length: int) -> "tuple[np.ndarray, np.ndarray]":
+    """Returns the numbers of the first and of the last voxels of the runs of active voxels of one value, in rows of a length."""
+    begins = active ^ going_on(values, active, length, 1)
+    lasts = active.copy()
+    lasts[:-1] &= begins[1:] | ~active[1:]
+    return np.flatnonzero(begins), np.flatnonzero(lasts)
+
+
+def going_on(values: np.ndarray, active: np.ndarray, length: int, step: int) -> np.ndarray:
+    """Returns which active voxels follow an active one of the same value along an axis, on which so many voxels lie a step apart."""
+    made = np.zeros(len(values), np.bool_)
+    np.equal(values[step:], values[:-step], out=made[step:])
+    made[step:] &= active[:-step]
+    made &= active
+    made.reshape(-1, length, step)[:, 0] = False
+    return made
 
 
 #: Up to this number of labels of a leaf, or of a choice, are searched for one by one.

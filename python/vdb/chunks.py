@@ -17,6 +17,7 @@ from __future__ import annotations
 import os
 import warnings
 from functools import partial
+from itertools import product
 from typing import Any, Callable, Iterator, Mapping, Sequence, Union
 
 import numpy as np
@@ -25,6 +26,7 @@ from . import label_names, labels as measured
 from .blocks import Labels, grouped, joined
 from .chunk_files import INDEX, Folder, read_folder
 from .errors import DtypeError, RangeError, VdbWarning
+from .formats.ome_zarr import opened
 from .forms import KINDS, Array, Bounds, Coordinate, Metadata, Value, check_bounds, check_box, kind_of_array, narrowed
 from .grid import Grid
 from .image_view import dtype_of as image_dtype
@@ -34,7 +36,7 @@ from .manners import Voxels
 from .mask import Mask
 from .reading import MAX_BYTES, check_bytes
 from .zarr_stores import (
-    Box, ChunksFault, Compute, Entry, Form, Volume, around, dtype_of, grown, opened, path_of, read_volume, sides, slices, write_volume,
+    Box, ChunksFault, Compute, Entry, Form, Volume, around, dtype_of, grown, path_of, read_volume, sides, slices, write_volume,
 )  # fmt: skip
 
 try:
@@ -259,7 +261,10 @@ class Chunks(Voxels):
         boxes = blocks_of(form, [(source, halo if grows else 0), *([(grows._source, halo)] if grows else [])])
 
         def compute(target: Volume) -> "Sequence[Entry | None]":
-            return each(partial(change_block, source, other and other._source, name, arguments, halo, target), boxes)
+            if name not in OF_STATES:
+                return each(partial(change_block, source, name, arguments, halo, target), boxes)
+            call = partial(change_states, source, other and other._source, name, arguments, halo, target)
+            return each(call, boxes, states_around(source, boxes, halo))
 
         return written(folder, form, metadata, self.names if made.kind == self.kind else {}, compute)
 
@@ -301,10 +306,13 @@ def from_array(
     form = Form(kind, filled, False, dtype_of(kind, values.dtype, [filled]), check_box(origin, values.shape), values.shape, side).check()
 
     def compute(target: Volume) -> "Sequence[Entry | None]":
-        cuts = form.cuts(block_side(form), form.low, form.shape)
-        blocks = values.rechunk(cuts) if isinstance(values, dask.array.Array) else dask.array.from_array(values, cuts, name=False)
-        ones = [(1,) * len(it) for it in cuts]
-        return run([blocks.map_blocks(partial(write_block, target), chunks=ones, meta=np.empty((0, 0, 0), object))])[0].flat
+        most = block_side(form)
+        cuts = form.cuts(most, form.low, form.shape)
+        blocks = values if isinstance(values, dask.array.Array) else dask.array.from_array(values, cuts, name=False)
+        if any(max(it) > most or any(at % form.side or 2 * at < most for at in it[:-1]) for it in blocks.chunks):
+            blocks = blocks.rechunk(cuts)  # other parts are blocks as they are
+        entries = blocks.map_blocks(partial(write_block, target), chunks=[(1,) * it for it in blocks.numblocks], meta=np.empty((0, 0, 0), object))
+        return run([entries])[0].flat
 
     return written(folder, form, pairs, names or {}, compute)
 
@@ -386,23 +394,54 @@ def read_block(source: Source, low: Coordinate, fill: "Value | None", which: int
     return active if which else (values if fill is None else np.where(active, values, fill)).astype(KINDS[source.form.kind].dtype)
 
 
-def change_block(
-    source: Source, other: "Source | None", name: str, arguments: tuple, halo: int, target: Volume, box: Box
-) -> "Entry | None":
+def change_block(source: Source, name: str, arguments: tuple, halo: int, target: Volume, box: Box) -> Entry:
     """Writes a block of a volume to another one, changed. Its grids are turned, since no call here tells the axes apart."""
-    near, turned = grown(box, halo), box[:, ::-1]
-    here = slices(turned, (0, 0, 0))
-    if name in OF_STATES:  # then no value goes into a grid
-        values, active = arrays_of(source, near)
-        second = Grid.from_array(arrays_of(other, box)[1].T, origin=turned[0]) if other else None
-        states = called(name, arguments, Grid.from_array(active.T, origin=near[0][::-1]), second).active[here].T
-        return target.write(box, states if source.form.is_mask else values[slices(box, near[0])], states)
-    made = called(name, arguments, grid_of(source, near, is_turned=True), None)
+    turned = box[:, ::-1]
+    made = called(name, arguments, grid_of(source, grown(box, halo), is_turned=True), None)
     if target.form.is_mask:
-        return target.write(box, made[here].T)
-    dtype = np.dtype("bool" if made.kind == "bool" else target.form.dtype)
-    values, active = made.to_array(turned, dtype=dtype)
+        return target.write(box, made[slices(turned, (0, 0, 0))].T)
+    values, active = made.to_array(turned, dtype=np.dtype("bool" if made.kind == "bool" else target.form.dtype))
     return target.write(box, values.T, active.T)
+
+
+def states_around(source: Source, boxes: "Sequence[Box]", halo: int) -> "list[list[Any]]":
+    """Returns the tasks of dask that read the states of the blocks of a volume that have voxels of each box, or up to a halo from it."""
+    form, task, side = source.form, dask.delayed(states_block), block_side(source.form)
+    tasks = {tuple((box[0] - form.low) // side): task(source, box) for box in blocks_of(form, [(source, 0)])}
+    near = (product(*(range(it.start, it.stop) for it in form.cubes(grown(box, halo), side))) for box in boxes)
+    return [[tasks[at] for at in places if at in tasks] for places in near]
+
+
+def states_block(source: Source, box: Box) -> "tuple[Box, np.ndarray, np.ndarray]":
+    """Returns the box of a block, its states, and which voxels haven't the background, both as bits with the axes z, y, x."""
+    values, active = source.read(box)
+    shown = np.packbits((values != source.form.background).T, axis=2)
+    return box, shown if active is None else np.packbits(active.T, axis=2), shown
+
+
+def states_in(box: Box, blocks: "Sequence[tuple]", which: int) -> np.ndarray:
+    """Returns the states of a box (`which` is 1), or which voxels haven't the background (2), by what `states_block` returns of blocks."""
+    made = np.zeros(sides(box)[::-1], np.bool_).T
+    for block in blocks:
+        both = np.array([np.maximum(box[0], block[0][0]), np.minimum(box[1], block[0][1])])
+        if min(sides(both)) > 0:
+            x, y, z = slices(both, block[0][0])
+            bits = np.unpackbits(block[which][z, y, x.start // 8 : -(-x.stop // 8)], axis=2).T
+            made[slices(both, box[0])] = bits[x.start % 8 :][: x.stop - x.start]
+    return made
+
+
+def change_states(
+    source: Source, other: "Source | None", name: str, arguments: tuple, halo: int, target: Volume, box: Box, blocks: "Sequence[tuple]"
+) -> Entry:
+    """Writes a block of a volume to another one with other states, by the states of the blocks around. No value goes into a grid."""
+    near, turned = grown(box, halo), box[:, ::-1]
+    second = Grid.from_array(arrays_of(other, box)[1].T, origin=turned[0]) if other else None
+    made = called(name, arguments, Grid.from_array(states_in(near, blocks, 1).T, origin=near[0][::-1]), second)
+    states = made.active[slices(turned, (0, 0, 0))].T
+    if source.form.is_mask:
+        return target.write(box, states)
+    return target.write(box, source if target.is_copied(source) else source.read(box)[0], states, states_in(box, blocks, 2))
 
 
 def low_sides(form: Form, box: Box, halo: int) -> "Iterator[tuple[int, Box]]":
@@ -416,12 +455,11 @@ def low_sides(form: Form, box: Box, halo: int) -> "Iterator[tuple[int, Box]]":
 
 def tally_block(source: Source, box: Box) -> measured.Tally:
     """Returns what is added up of a block, and of the faces between it and those before it."""
-    made = [measured.tally(grid_of(source, box))]
+    own = arrays_of(source, box)
+    made = [measured.tally_array(*own, box[0])]
     for axis, side in low_sides(source.form, box, 0):
-        labels, sums, pairs, faces = measured.tally(grid_of(source, side))
-        across = faces[:, axis] > 0
-        none = Labels(*(column[:0] for column in labels))
-        made.append(measured.Tally(none, sums[:0], pairs[across], faces[across] * (np.arange(3) == axis)))
+        side[1, axis] -= 1  # the plane of the other block alone
+        made.append(measured.tally_faces(*(np.concatenate([it, to.take([0], axis)], axis) for it, to in zip(arrays_of(source, side), own)), axis))
     return measured.merged(made)
 
 

@@ -21,13 +21,13 @@ import numpy as np
 
 from . import images
 from .arrays import fill_boxes, new_grid, write_box
-from .blocks import OFFSETS, Cubes, Labels, grouped, joined
+from .blocks import OFFSETS, Cubes, Labels, ends_of, going_on, grouped, joined, ranks
 from .blocks import numbered as voxels_at
 from .edits import fill_active, strips, write_cubes, write_leaves
 from .engine import Stored
 from .errors import DtypeError, RangeError
 from .formats.volume import package
-from .forms import COORDINATE_SPAN, SIDES
+from .forms import COORDINATE_SPAN, SIDES, kind_of_array
 from .grid import Grid
 from .labels_items import Contact, Items, inside, steps_of
 from .mask import Mask
@@ -40,6 +40,8 @@ __all__ = ["Measures", "close", "components", "fill_holes", "margin", "measure",
 
 #: The connectivities: how many coordinates a step to a neighbour changes.
 ORDERS = {6: 1, 18: 2, 26: 3}
+#: How many voxels of an array are added up at a time, about.
+SLAB = 2**21
 #: The side in voxels of the boxes in which margins are found, and the widest margin.
 BRICK, WIDEST = 64, 256
 
@@ -160,6 +162,53 @@ def tally(grid: Walkable) -> Tally:
     return Tally(labels, sums_of(items, labels), pairs, faces)
 
 
+def tally_array(values: np.ndarray, active: np.ndarray, low: "Sequence[int]") -> Tally:
+    """Returns what `measure` adds up of the active voxels of an array, whose first voxel lies at `low`. Column order is fastest."""
+    depth = max(1, SLAB // max(1, values[..., 0].size))
+    made, length = [tally(Grid(kind_of_array(values).word))], values.shape[2]
+    for first in range(0, length, depth):
+        part = (..., slice(first, first + depth))
+        made.append(tally_slab(values[part], active[part], np.add(low, (0, 0, first))))
+        if first:
+            part = (..., slice(first - 1, first + 1))
+            made.append(tally_faces(values[part], active[part], 2))
+    return merged(made)
+
+
+def tally_faces(values: np.ndarray, active: np.ndarray, axis: int) -> Tally:
+    """Returns what is added up of the faces between two planes of voxels along an axis."""
+    labels, sums, pairs, faces = tally_slab(values, active, np.zeros(3, np.int64))
+    across = faces[:, axis] > 0
+    return Tally(Labels(*(column[:0] for column in labels)), sums[:0], pairs[across], faces[across] * (np.arange(3) == axis))
+
+
+def tally_slab(values: np.ndarray, active: np.ndarray, low: np.ndarray) -> Tally:
+    """Returns what is added up of an array, by its runs along x. Inside a label lie as many faces along an axis as it has voxels, but for those
+    that don't go on along it."""
+    shape, (values, active) = values.shape, (it.ravel(order="F") for it in (values, active))
+    begin, end = ends_of(values, active, shape[0])
+    if not len(begin):
+        return tally(Grid(kind_of_array(values).word))
+    corner, counts = np.stack(np.unravel_index(begin, shape, order="F"), axis=1), end + 1 - begin
+    past = corner + (counts - 1)[:, None] * (np.arange(3) == 0)
+    labels = grouped(Labels(values[begin], counts, (corner + low).astype(np.int32), (past + low).astype(np.int32)))
+    span, sums, found = len(labels.values) + 1, np.zeros((3, len(labels.values)), np.int64), []
+    same = np.repeat(np.append(0, labels.counts)[None], 3, axis=0)
+    for axis, step in enumerate((1, shape[0], shape[0] * shape[1])):
+        at = np.flatnonzero(active ^ going_on(values, active, shape[axis], step)) if axis else begin
+        cells = ranks(values[at].astype(np.int64), labels.values) + 1
+        if not axis:
+            sums += [np.bincount(cells, column, span)[1:].astype(np.int64) for column in ((corner + past) * counts[:, None]).T]
+        same[axis] -= np.bincount(cells, minlength=span)
+        touch = (at // step % shape[axis] > 0) & active[at - step]
+        before = ranks(values[at[touch] - step].astype(np.int64), labels.values) + 1
+        codes, faces = tallied(paired(cells[touch], before, span), span**2)
+        found.append((3 * codes + axis, faces))
+    codes, faces = faced(found, same, span)
+    twice = 2 * labels.counts.astype(object)[:, None] * low.astype(object)
+    return Tally(labels, sums.T.astype(object) + twice, labels.values[np.stack(divmod(codes, span), axis=1) - 1], faces)
+
+
 def sums_of(items: Items, labels: Labels) -> np.ndarray:
     """Returns twice the sums of the coordinates (n x 3, Python's integers) of labels: the middle of a tile may lie between voxels."""
     count = len(labels.values) + 1
@@ -188,13 +237,24 @@ def touching(items: Items, span: int) -> "tuple[np.ndarray, np.ndarray]":
         same[axis] += each * np.bincount(one[alike], minlength=span)
         differ = ~alike & (one != 0) & (other != 0)
         one, other = one[differ].astype(np.int64), other[differ].astype(np.int64)
-        codes, counts = tallied(np.minimum(one, other) * span + np.maximum(one, other), span**2)
+        codes, counts = tallied(paired(one, other, span), span**2)
         found.append((3 * codes + axis, counts * each))
+    return faced(found, same, span)
+
+
+def faced(found: "list[tuple[np.ndarray, np.ndarray]]", same: np.ndarray, span: int) -> "tuple[np.ndarray, np.ndarray]":
+    """Returns what `touching` does, of parts: three times the pairs of cells plus an axis, and how many faces lie between them. `same` are those
+    along each axis inside each cell (3 x span)."""
     found += [(3 * (span + 1) * np.arange(1, span) + axis, same[axis, 1:]) for axis in range(3)]
     codes, counts = (np.concatenate(column) for column in zip(*found))
     code, which = np.unique(codes[counts > 0] // 3, return_inverse=True)
     faces = np.bincount(3 * which + codes[counts > 0] % 3, counts[counts > 0], 3 * len(code))
     return code, faces.reshape(-1, 3).astype(np.int64)
+
+
+def paired(one: np.ndarray, other: np.ndarray, span: int) -> np.ndarray:
+    """Returns pairs of cells below a span as numbers, the lesser cell times the span and the other one."""
+    return np.minimum(one, other) * span + np.maximum(one, other)
 
 
 def tallied(codes: np.ndarray, span: int) -> "tuple[np.ndarray, np.ndarray]":

@@ -1,5 +1,5 @@
 # SPDX-License-Identifier: Apache-2.0
-"""Volumes of labels in zarr stores: those that this package writes, and arrays and images of OME-Zarr that others wrote.
+"""Volumes of labels in zarr stores, those that this package writes. vdb.formats.ome_zarr reads what others wrote.
 
 A volume is a label image of OME-Zarr 0.4 with one level. Its group has
 
@@ -20,7 +20,7 @@ import os
 import re
 import secrets
 import zlib
-from typing import Any, Callable, Dict, Iterable, List, Mapping, NamedTuple, Optional, Sequence, Tuple
+from typing import Any, Callable, Dict, Iterable, Mapping, NamedTuple, Optional, Sequence, Tuple
 
 import numpy as np
 
@@ -28,7 +28,7 @@ from .errors import DtypeError, FormatError, RangeError, VolumeError
 from .files import naming, replacing, synchronise
 from .formats.volume import package
 from .forms import COORDINATE_SPAN, KINDS, Coordinate, Metadata, Value, check_bounds
-from .images import affine_of, identity, moved
+from .images import affine_of, moved
 
 ARRAYS, SUMS, ATTRIBUTES = ("0", "toggled"), "sums", ".zattrs"
 VERSION = 2
@@ -36,8 +36,6 @@ VERSION = 2
 MOST_CHUNKS = 2**27
 #: The form of the name of a group that one call wrote.
 WRITTEN = re.compile(r"[0-9a-f]{16}\Z")
-#: The axes of images of OME-Zarr up to version 0.2, which don't name them.
-AXES = "tczyx"
 #: The short names of units.
 UNITS = {"meter": "m", "millimeter": "mm", "micrometer": "um", "nanometer": "nm"}
 
@@ -131,25 +129,25 @@ class Volume(NamedTuple):
     def read(self, box: Box) -> "Tuple[np.ndarray, np.ndarray | None]":
         """Returns the values of a box and its states, or None for these if all voxels but those of the background are active. Raises
         ChunksFault, which names it, if a chunk is missing or has other bytes than were written."""
-        form, part = self.form, self.form.chunks(box)
-        store = package("zarr", "python3-zarr").LRUStoreCache(store_of(self.path), None)
-        wrong = np.argwhere(self._sums(store, part) != self.sums[part])
-        if len(wrong):
-            key = self._key(part, wrong[0])
-            raise ChunksFault(None, "the chunk has other bytes than were written" if key in store else "the chunk is missing", f"{self.path}/{key}")
+        form, (store, part) = self.form, self._checked(box)
         values = self._part(store, 0, box, np.full(sides(box)[::-1], form.background, form.dtype))
         values = values.view(np.bool_) if form.kind == "bool" else values
         if not self.sums[part][1].any():
             return values, None
         return values, (values != form.background) ^ self._part(store, 1, box, np.zeros(sides(box)[::-1], np.bool_))
 
-    def write(self, box: Box, values: np.ndarray, active: "np.ndarray | None" = None) -> Entry:
-        """Writes a box of whole chunks: values, and states, or None for these if all voxels but those of the background are active."""
-        shown, store, part = values != self.form.background, store_of(self.path), self.form.chunks(box)
+    def write(self, box: Box, values: "np.ndarray | Volume", active: "np.ndarray | None" = None, shown: Any = None) -> Entry:
+        """Writes a box of whole chunks: values, and states, or None for these if all voxels but those of the background are active. For the
+        values of a volume that `is_copied` its chunks are copied, and `shown` says which voxels haven't the background."""
+        shown = values != self.form.background if shown is None else shown
+        store, part = store_of(self.path), self.form.chunks(box)
         states, here = shown if active is None else active, slices(box, self.form.low)[::-1]
         with naming(self.path):
             try:
-                self._array(store, 0)[here] = values.T
+                if isinstance(values, Volume):
+                    self._copy(store, values, box)
+                else:
+                    self._array(store, 0)[here] = turned(values)
                 if active is not None and not np.array_equal(states, shown):
                     self._array(store, 1)[here] = (states ^ shown).T
             finally:
@@ -157,6 +155,27 @@ class Volume(NamedTuple):
                     remove(store, self.written)
         ends = [np.flatnonzero(states.any(axis=axes))[[0, -1]] for axes in ((1, 2), (0, 2), (0, 1))] if states.any() else []
         return Entry(box, int(np.count_nonzero(states)), np.transpose(ends) + box[0] if ends else None, self._sums(store, part))
+
+    def is_copied(self, source: Any) -> bool:
+        """Returns whether the chunks of a volume have the form and the places of those here, so that their bytes can be copied."""
+        form = self.form._replace(low=source.form.low, shape=source.form.shape)
+        return isinstance(source, Volume) and form == source.form and not (np.subtract(self.form.low, form.low) % form.side).any()
+
+    def _copy(self, store: Any, source: "Volume", box: Box) -> None:
+        """Copies the chunks of values of a box."""
+        near, part = source._checked(box)
+        step = np.subtract(source.form.low, self.form.low)[::-1] // self.form.side
+        for at in np.argwhere(source.sums[part][:1]):
+            store[self._key(part, at + [0, *step])] = near[source._key(part, at)]
+
+    def _checked(self, box: Box) -> "Tuple[Any, Tuple[slice, ...]]":
+        """Returns a store that keeps the chunks of a box, and which part of the checksums they have. Raises ChunksFault as `read` does."""
+        part, store = self.form.chunks(box), package("zarr", "python3-zarr").LRUStoreCache(store_of(self.path), None)
+        wrong = np.argwhere(self._sums(store, part) != self.sums[part])
+        if len(wrong):
+            key = self._key(part, wrong[0])
+            raise ChunksFault(None, "the chunk has other bytes than were written" if key in store else "the chunk is missing", f"{self.path}/{key}")
+        return store, part
 
     def beside(self, kind: str) -> "Volume":
         """Makes another volume of the same shape, of another type, in a group that is removed when this one is written."""
@@ -239,6 +258,16 @@ def sides(box: Box) -> "Tuple[int, int, int]":
 def slices(box: Box, low: Sequence[int]) -> "Tuple[slice, ...]":
     """Returns the indices of a box in an array whose first voxel lies at `low`."""
     return tuple(map(slice, (box[0] - np.asarray(low)).tolist(), (box[1] + 1 - np.asarray(low)).tolist()))
+
+
+def turned(values: np.ndarray) -> np.ndarray:
+    """Returns an array with its axes reversed, in row order. It copies plane by plane, which meets fewer pages of memory at a time."""
+    if values.flags.f_contiguous:
+        return values.T
+    made = np.empty(values.shape[::-1], values.dtype)
+    for at in range(values.shape[1]):
+        made[:, at] = values[:, at].T
+    return made
 
 
 def grown(box: Box, halo: int) -> Box:
@@ -386,69 +415,3 @@ def multiscales(made: Volume, metadata: "Mapping[str, str]") -> "Dict[str, Any]"
         "version": "0.4", "name": made.path.rpartition("/")[2], "axes": [{key: text for key, text in axis.items() if text} for axis in axes[::-1]],
         "datasets": [{"path": f"{made.written}/{ARRAYS[0]}", "coordinateTransformations": level}],
     }  # fmt: skip
-
-
-class Opened(NamedTuple):
-    """An array of a store: the order of its axes x, y and z, its others having one index, the affine (3 x 4) of its indices, notes of
-    vdb.images, what image-label says, and whether it is a volume with states."""
-
-    array: Any
-    order: "List[int]"
-    affine: np.ndarray
-    notes: "Dict[str, str]"
-    label: "Mapping[str, Any]"
-    has_states: bool
-
-    def turned(self, array: Any) -> Any:
-        """Returns the array, or one of its form, with the axes x, y, z."""
-        rest = [at for at in range(len(self.array.shape)) if at not in self.order]
-        return array.transpose([*rest, *self.order]).reshape([self.array.shape[at] for at in self.order])
-
-
-def opened(path: str) -> Opened:
-    """Returns the array of a store with its place: the store itself, or level 0 of an image of OME-Zarr.
-
-    Raises ImportError without zarr, FileError if there is no such folder, and VolumeError if it has no such array.
-    """
-    library = package("zarr", "python3-zarr")
-    if is_local(path):
-        with naming(path):
-            os.stat(path)
-    try:
-        found = library.open(path, mode="r")
-        return Opened(found, [0, 1, 2], identity(), {}, {}, False) if isinstance(found, library.Array) else level_0(found)
-    except Exception as error:
-        raise VolumeError(f"no image of zarr: {type(error).__name__}: {error}", path) from error
-
-
-def level_0(group: Any) -> Opened:
-    """Returns the array of the most voxels of an image of OME-Zarr with its place. Raises ValueError or KeyError if the group is none."""
-    attributes = group.attrs.asdict()
-    images = attributes.get("multiscales")
-    if not images:
-        raise ValueError(f"the group isn't an image of OME-Zarr: name one of its arrays, which are {', '.join(group.array_keys()) or 'none'}")
-    level, axes = images[0]["datasets"][0], [axis if isinstance(axis, dict) else {"name": axis} for axis in images[0].get("axes") or AXES]
-    array, names = group[level["path"]], "".join(axis["name"] for axis in axes)
-    if len(names) != array.ndim or {*"xyz"} - {*names} or any(side > 1 for name, side in zip(names, array.shape) if name not in "xyz"):
-        raise ValueError(f"an array with the axes {names} of the shape {array.shape}, where a volume has x, y and z")
-    order = [names.index(name) for name in "xyz"]
-    affine = identity()
-    for change in (*level.get("coordinateTransformations", ()), *images[0].get("coordinateTransformations", ())):
-        affine = changed(affine, change, order)
-    units = [UNITS.get(axes[at].get("unit", ""), axes[at].get("unit", "")) for at in order]
-    notes = {"image_units": ",".join(units[:1] if len({*units}) == 1 else units)} if all(units) else {}
-    has_states = "vdb" in attributes and any(group[level["path"][: -len(ARRAYS[0])] + SUMS][1].flat)
-    return Opened(array, order, affine, notes, attributes.get("image-label", {}), has_states)
-
-
-def changed(affine: np.ndarray, change: "Mapping[str, Any]", order: "List[int]") -> np.ndarray:
-    """Returns an affine followed by a scale or a translation of OME-Zarr, whose numbers for x, y, z have these places. Raises ValueError for
-    another change."""
-    made = affine.copy()
-    if change["type"] == "scale":
-        made *= np.array([change["scale"][at] for at in order], np.float64)[:, None]
-    elif change["type"] == "translation":
-        made[:, 3] += [change["translation"][at] for at in order]
-    elif change["type"] != "identity":
-        raise ValueError(f"a coordinate transformation of the type {change['type']}, where identity, scale and translation are read")
-    return made

@@ -176,6 +176,9 @@ class Threads(Case):
             self.same(self.written(source, side=16, origin=(-7, 3, 0)), grid)
         for empty in (np.zeros((0, 3, 3), np.int32), np.zeros((9, 9, 9), np.int32)):
             self.same(self.written(empty, side=8), vdb.Grid("i32"))
+        for lengths in (16, (24, 16, 24), (8, 32, 9)):  # parts of whole chunks, which stay, and others
+            with mock.patch("vdb.chunks.BLOCK", 24):
+                self.same(self.written(dask_array.from_array(values, chunks=lengths), side=8, origin=(-7, 3, 0)), grid)
         values[[0, -1]] = 1
         found, states = self.written(values, side=16).to_array(fill=-1)
         np.testing.assert_array_equal(found, np.where(values, values, -1))
@@ -210,6 +213,11 @@ class Measured(Case):
             made = np.asarray(volume.select([1, 2, 3], self.folder / "b").components(self.folder / "b", connectivity))
             wanted, count = ndimage.label(values, ndimage.generate_binary_structure(3, order))
             self.assertEqual((made.max(), len(np.unique(np.stack([made[values > 0], wanted[values > 0]]), axis=1).T)), (count, count))
+
+    def test_slabs(self):
+        """Blocks of more voxels than are added up at a time."""
+        with mock.patch("vdb.labels.SLAB", 600):
+            self.test_against_scipy()
 
     def test_wrong_arguments_write_nothing(self):
         volume = self.written(labels_of(1, (9, 9, 9), 0.5), side=8)
@@ -520,6 +528,26 @@ class Folders(Case):
         self.assertRegex(ran.stdout, "python3-dask.*python3-distributed.*python3-zarr")
         with mock.patch.dict(sys.modules, {"zarr": None}), self.assertRaisesRegex(ImportError, "python3-zarr"):
             self.written("z", "b")
+
+    def test_chunks_of_values_are_copied(self):
+        """Their files stay as they are, beside absent chunks, if the new volume has the same borders of chunks. Otherwise they are new."""
+        values, place = np.zeros((48, 24, 24), np.int32), self.folder / "b"
+        values[4:12, 9:20, 9:20], values[40:44, 8:10, 8:10] = 3, 5
+        grid, volume = vdb.Grid.from_array(values), self.written(values, "b", side=8)
+
+        def files():
+            return {it.parts[-3:]: it.read_bytes() for it in place.glob("*/0/*/*/*")}
+
+        before = files()
+        self.assertEqual(len(before), 9)
+        for name, argument, other in (("erode", 1, 1), ("dilate", 5, 5), ("unite", self.grid, self.volume), ("subtract", self.grid, self.volume)):
+            getattr(grid, name)(argument)
+            volume = getattr(volume, name)(other, place)
+            self.same(volume, grid)
+            self.assertEqual(files(), before, name)
+        grid.dilate(16)
+        self.same(volume.dilate(16, place), grid)
+        self.assertNotEqual(files(), before)
 
     def test_bytes(self):
         """A full volume takes at most 1.3 times the bytes of zarr's own array."""

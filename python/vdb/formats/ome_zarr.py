@@ -3,26 +3,30 @@
 volumes, and keep states and background too."""
 from __future__ import annotations
 
+import os
 import warnings
 from itertools import product
-from typing import Iterator
+from typing import Any, Dict, Iterator, List, Mapping, NamedTuple
 
 import numpy as np
 
 from .. import zarr_stores
-from ..errors import VdbWarning
+from ..errors import VdbWarning, VolumeError
+from ..files import naming
 from ..forms import KINDS, check_box, kind_of_array
 from ..images import Image, affine_of, identity, moved
-from .volume import Volume, allow, integers
+from .volume import Volume, allow, integers, package
 
 #: How many voxels a chunk has along each axis, and a block that is written at a time.
 SIDE, BLOCK = 128, 256
+#: The axes of images of OME-Zarr up to version 0.2, which don't name them.
+AXES = "tczyx"
 
 
 def read(path: str, max_bytes: int, floats: bool = False) -> Volume:
     """Returns the array of a store with its place: of a volume its image, or if voxels outside are active, all of it."""
     if "vdb" not in zarr_stores.attributes_of(path):
-        found = zarr_stores.opened(path)
+        found = opened(path)
         allow(found.array.shape, found.array.dtype, max_bytes)
         values = integers(found.turned(found.array[...]), floats=floats)
         return Volume(values, found.affine, None, found.notes, found.array.dtype)
@@ -61,3 +65,69 @@ def write_store(path: str, volume: Volume) -> None:
             yield target.write(box, values[part], None if volume.states is None else volume.states[part])
 
     zarr_stores.write_volume(zarr_stores.path_of(path), form, image.pairs(), {}, written)
+
+
+class Opened(NamedTuple):
+    """An array of a store: the order of its axes x, y and z, its others having one index, the affine (3 x 4) of its indices, notes of
+    vdb.images, what image-label says, and whether it is a volume with states."""
+
+    array: Any
+    order: "List[int]"
+    affine: np.ndarray
+    notes: "Dict[str, str]"
+    label: "Mapping[str, Any]"
+    has_states: bool
+
+    def turned(self, array: Any) -> Any:
+        """Returns the array, or one of its form, with the axes x, y, z."""
+        rest = [at for at in range(len(self.array.shape)) if at not in self.order]
+        return array.transpose([*rest, *self.order]).reshape([self.array.shape[at] for at in self.order])
+
+
+def opened(path: str) -> Opened:
+    """Returns the array of a store with its place: the store itself, or level 0 of an image of OME-Zarr.
+
+    Raises ImportError without zarr, FileError if there is no such folder, and VolumeError if it has no such array.
+    """
+    library = package("zarr", "python3-zarr")
+    if zarr_stores.is_local(path):
+        with naming(path):
+            os.stat(path)
+    try:
+        found = library.open(path, mode="r")
+        return Opened(found, [0, 1, 2], identity(), {}, {}, False) if isinstance(found, library.Array) else level_0(found)
+    except Exception as error:
+        raise VolumeError(f"no image of zarr: {type(error).__name__}: {error}", path) from error
+
+
+def level_0(group: Any) -> Opened:
+    """Returns the array of the most voxels of an image of OME-Zarr with its place. Raises ValueError or KeyError if the group is none."""
+    attributes = group.attrs.asdict()
+    images = attributes.get("multiscales")
+    if not images:
+        raise ValueError(f"the group isn't an image of OME-Zarr: name one of its arrays, which are {', '.join(group.array_keys()) or 'none'}")
+    level, axes = images[0]["datasets"][0], [axis if isinstance(axis, dict) else {"name": axis} for axis in images[0].get("axes") or AXES]
+    array, names = group[level["path"]], "".join(axis["name"] for axis in axes)
+    if len(names) != array.ndim or {*"xyz"} - {*names} or any(side > 1 for name, side in zip(names, array.shape) if name not in "xyz"):
+        raise ValueError(f"an array with the axes {names} of the shape {array.shape}, where a volume has x, y and z")
+    order = [names.index(name) for name in "xyz"]
+    affine = identity()
+    for change in (*level.get("coordinateTransformations", ()), *images[0].get("coordinateTransformations", ())):
+        affine = changed(affine, change, order)
+    units = [zarr_stores.UNITS.get(axes[at].get("unit", ""), axes[at].get("unit", "")) for at in order]
+    notes = {"image_units": ",".join(units[:1] if len({*units}) == 1 else units)} if all(units) else {}
+    has_states = "vdb" in attributes and any(group[level["path"][: -len(zarr_stores.ARRAYS[0])] + zarr_stores.SUMS][1].flat)
+    return Opened(array, order, affine, notes, attributes.get("image-label", {}), has_states)
+
+
+def changed(affine: np.ndarray, change: "Mapping[str, Any]", order: "List[int]") -> np.ndarray:
+    """Returns an affine followed by a scale or a translation of OME-Zarr, whose numbers for x, y, z have these places. Raises ValueError for
+    another change."""
+    made = affine.copy()
+    if change["type"] == "scale":
+        made *= np.array([change["scale"][at] for at in order], np.float64)[:, None]
+    elif change["type"] == "translation":
+        made[:, 3] += [change["translation"][at] for at in order]
+    elif change["type"] != "identity":
+        raise ValueError(f"a coordinate transformation of the type {change['type']}, where identity, scale and translation are read")
+    return made
