@@ -284,7 +284,8 @@ public:
         return made;
     }
 
-    // Returns the handle, for calls of vdb.h. This object still owns it.
+    // Returns the handle, for calls of vdb.h. This object still owns it, and doesn't see what they change: from then on each step of a
+    // loop over voxels() reads the grid anew.
     vdb_grid *handle() { return grid_.lent(); }
 
     Kind kind() const
@@ -424,7 +425,7 @@ public:
     PartsOf<Grid> parts() const && = delete;
 
     // Returns the active voxels of a box in block order, for a range-based for. The loop may change them: each step finds the first
-    // active voxel after the last one.
+    // active voxel after the last one. A loop that only reads is much faster, as it copies the cells of a leaf at a time.
     ActiveVoxelsOf<Grid> voxels(const Box &box = everywhere) const &;
     ActiveVoxelsOf<Grid> voxels(const Box &box = everywhere) const && = delete;
 
@@ -534,8 +535,7 @@ struct Leaf {
     Cell at(int x, int y, int z) const { return {values.data()[64 * x + 8 * y + z], (states.data()[x] >> (8 * y + z) & 1) != 0}; }
 };
 
-// The active voxels of a box of a grid or a view, in block order. The owner must outlive it. A loop may change the owner: each step sees it
-// as it is then.
+// The active voxels of a box of a grid or a view, in block order. The owner must outlive it.
 template <typename Owner> class ActiveVoxelsOf {
 public:
     class Iterator {

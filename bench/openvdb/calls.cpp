@@ -95,7 +95,8 @@ public:
 
     Sum loop() {
         Sum sum = 0;
-        for (const vdb::Voxel& voxel : grid.voxels()) sum += voxel.value + voxel.at.z;
+        const vdb::Grid own = std::move(grid); // a loop over a grid that has lent its handle reads it anew at each step
+        for (const vdb::Voxel& voxel : own.voxels()) sum += voxel.value + voxel.at.z;
         return sum;
     }
 
@@ -285,6 +286,11 @@ void run() {
         Grid grid;
         report("C, an array to a new grid", "voxel", VOXELS, [&] { grid.from_box(values); });
         report("C++, a loop over active voxels", "voxel", VOXELS, [&] { looped = grid.loop(); });
+    }
+    {
+        Grid grid;
+        for (std::uint32_t number = 0; number < LEAVES; ++number) grid.set({ordered[number].y * 8, ordered[number].z * 8, 0}, values[number]);
+        report("C++, a loop over scattered active voxels", "voxel", LEAVES, [&] { looped += grid.loop(); });
     }
     {
         Grid grid;

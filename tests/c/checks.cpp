@@ -18,6 +18,9 @@ int64_t sum_of(vdb::Span<const int64_t> values);
 int64_t active_of(const vdb::Leaf &leaf);
 vdb::Span<const vdb::Coord> without_first(vdb::Span<const vdb::Coord> all);
 
+// Of loops.cpp.
+bool loops();
+
 static int failed = 0;
 
 static void check_at(int line, bool holds)
@@ -761,5 +764,6 @@ int main(int, char **argv)
     parts();
     files(argv[1]);
     places(argv[1]);
+    CHECK(loops());
     return failed;
 }

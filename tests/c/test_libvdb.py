@@ -126,7 +126,7 @@ def checks(standard="c++17", other="c++20", flags=()) -> Path:
     made = work() / f"checks-{standard}{''.join(flags)}"
     words = ["g++", *STRICT, *flags, f"-I{prefix() / 'include'}"]
     done([*words, f"-std={other}", "-c", CHECKS / "spans.cpp", "-o", f"{made}.o"])
-    done([*words, f"-std={standard}", CHECKS / "checks.cpp", f"{made}.o", prefix() / "lib" / "libvdb.a", "-o", made])
+    done([*words, f"-std={standard}", CHECKS / "checks.cpp", CHECKS / "loops.cpp", f"{made}.o", prefix() / "lib" / "libvdb.a", "-o", made])
     return made
 
 
