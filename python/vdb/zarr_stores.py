@@ -136,7 +136,7 @@ class Volume(NamedTuple):
             return values, None
         return values, (values != form.background) ^ self._part(store, 1, box, np.zeros(sides(box)[::-1], np.bool_))
 
-    def write(self, box: Box, values: "np.ndarray | Volume", active: "np.ndarray | None" = None, shown: Any = None) -> Entry:
+    def write(self, box: Box, values: Any, active: "np.ndarray | None" = None, shown: Any = None) -> Entry:
         """Writes a box of whole chunks: values, and states, or None for these if all voxels but those of the background are active. For the
         values of a volume that `is_copied` its chunks are copied, and `shown` says which voxels haven't the background."""
         shown = values != self.form.background if shown is None else shown
