@@ -19,9 +19,9 @@ returns g c = λ d.
     let leaf = c.args.leaf.now in
     let first = c.offset-first.result in
     c.copy_part.ensures (λ q. g.S.Shown.of (cell_in d leaf (offset vdb leaf_level q))) (λ q e i.
-        let below = entry_below part c.min.result first inside c.min.ensures.corner c.requires.block c.offset-first.ensures.value q i in
-        let entry = entry_from part c.min.result first inside c.min.ensures.corner c.requires.block c.offset-first.ensures.value q i in
-        c.copy_row.ensures.elements d (first + place part leaf_strides q) e below ∙ ap (λ (n : ℕ). g.S.Shown.of (cell_in d leaf n)) (none (first + place part leaf_strides q) ∙ entry))
+    let below = entry_below part c.min.result first inside c.min.ensures.corner c.requires.block c.offset-first.ensures.value q i in
+    let entry = entry_from part c.min.result first inside c.min.ensures.corner c.requires.block c.offset-first.ensures.value q i in
+    c.copy_row.ensures.elements d (first + place part leaf_strides q) e below ∙ ap (λ (n : ℕ). g.S.Shown.of (cell_in d leaf n)) (none (first + place part leaf_strides q) ∙ entry))
   where
     none : (n : ℕ) → 0 + n ≡ n
     none n = omega arith

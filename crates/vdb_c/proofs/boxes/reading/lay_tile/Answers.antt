@@ -9,4 +9,4 @@ pub returns : goal.returns
 returns g c =
     let element = c.of-element.result in
     c.copy_part.ensures (λ q. g.S.Shown.of c.args.cell) (λ q e i.
-        subst (λ (n : ℕ). get_or (element ∷ []) n e ≡ element) (sym (ap (λ (n : ℕ). 0 + n) (place_none c.args.part q))) refl ∙ c.of-element.ensures)
+    subst (λ (n : ℕ). get_or (element ∷ []) n e ≡ element) (sym (ap (λ (n : ℕ). 0 + n) (place_none c.args.part q))) refl ∙ c.of-element.ensures)
