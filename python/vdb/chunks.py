@@ -459,7 +459,8 @@ def tally_block(source: Source, box: Box) -> measured.Tally:
     made = [measured.tally_array(*own, box[0])]
     for axis, side in low_sides(source.form, box, 0):
         side[1, axis] -= 1  # the plane of the other block alone
-        made.append(measured.tally_faces(*(np.concatenate([it, to.take([0], axis)], axis) for it, to in zip(arrays_of(source, side), own)), axis=axis))
+        values, active = (np.concatenate([it, to.take([0], axis)], axis) for it, to in zip(arrays_of(source, side), own))
+        made.append(measured.tally_faces(values, active, axis))
     return measured.merged(made)
 
 
