@@ -46,11 +46,11 @@ CALLS = {
         "+load two dense masks": "two masks of 300 boxes, bool: load",
     },
     "Python package, labels measured": {
-        "+Python: measure 12 organs, 256³": "12 organs: measure",
-        "+Python: components of 12 organs, 256³": "12 organs: components",
+        "+Python: measure 12 organs, 512³": "12 organs: measure",
+        "+Python: components of 12 organs, 512³": "12 organs: components",
         "Python: open an organ thrice": "12 organs: open, 3 iterations",
         "Python: fill the holes of an organ": "12 organs: fill_holes",
-        "+Python: a margin of 8 voxels, 256³": "12 organs: margin, 8 voxels",
+        "+Python: a margin of 8 voxels, 512³": "12 organs: margin, 8 voxels",
         "+Python: measure touching cells, 256³": "touching cells: measure",
     },
     "Python package, arrays and the engine": {
