@@ -16,6 +16,7 @@
 #include <cstdio>
 #include <cstdlib>
 #include <cstring>
+#include <optional>
 #include <random>
 #include <vector>
 
@@ -95,8 +96,8 @@ public:
 
     Sum loop() {
         Sum sum = 0;
-        const vdb::Grid own = std::move(grid); // a loop over a grid that has lent its handle reads it anew at each step
-        for (const vdb::Voxel& voxel : own.voxels()) sum += voxel.value + voxel.at.z;
+        own = std::move(grid); // a loop over a grid that has lent its handle reads it anew at each step
+        for (const vdb::Voxel& voxel : own->voxels()) sum += voxel.value + voxel.at.z;
         return sum;
     }
 
@@ -119,6 +120,7 @@ public:
 
 private:
     vdb::Grid grid{vdb::Kind::i64};
+    std::optional<vdb::Grid> own;
     std::uint8_t none = 0;
 
     static void check(std::int32_t code) {
