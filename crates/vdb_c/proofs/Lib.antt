@@ -4,7 +4,6 @@ mod KeptValues
 mod HeldGridValues
 mod HeldSceneValues
 mod HeldViewValues
-mod NextActive
 pub mod Filled
 pub mod NextVoxels
 pub mod NestedAxes
@@ -22,16 +21,10 @@ pub mod Ranks
 pub mod BoxFields
 pub mod RowFields
 pub mod CopiedRows
-pub mod LeafCopies
 pub mod LeafFields
 pub mod GivenLeaves
 pub mod GivenFields
 pub mod BuiltGrids
-pub mod VoxelCalls
-pub mod SameTrees
 pub mod LoadFaults
-pub mod Swaps
 pub mod EqualCells
-pub mod EqualGrids
 pub mod PartsPast
-pub mod PartsOfAny

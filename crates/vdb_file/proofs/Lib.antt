@@ -24,10 +24,8 @@ pub mod Alike
 mod Checks
 pub mod MadeBodies
 pub mod SavedGrids
-pub mod NthItems
 pub mod Texts
 pub mod Items
-pub mod LoadedScenes
 pub mod PairParts
 pub mod Beginnings
 pub mod HeadParts

@@ -1,7 +1,18 @@
-use Rattle.vdb_c.proofs.Common.{refl, rules, subst, w32, w64, SFits, IsSome, Ok, Option, option_map, to_z-of_z, Write, grid_field, Scalar, I64, IsWrittenBy, write_of, value_of}
+-- Calls on one voxel that the cached leaf of an accessor answers.
+use Rattle.vdb_c.proofs.Common.{refl, rules, subst, w32, w64, SFits, IsSome, Ok, Option, option_map, to_z-of_z, Write, grid_field, Scalar, I64, IsWrittenBy, write_of, value_of, ◌≡◌, ℕ, Some, None, Coord, AnyGrid, Writes, done}
 use Rattle.vdb_scene.specs.declared.any_grid.AnyGrid.TheVariants as grids
-use Rattle.vdb_c.proofs.VoxelCalls.{written_near}
+use Rattle.vdb_scene.specs.Grids.{KeepsOutside, grid_root_limit}
 use Rattle.vdb_c.proofs.voxels.near_writes.set_near.Goals as goal
+
+no_some : (A : Type 0) → IsSome {T = A} None → ⊥
+no_some A h = absurd cc
+
+-- a write that is done
+written_near : (accessor : Option (Option ℕ)) (at : Coord) (change : Option (Write Scalar)) (old new : AnyGrid) → IsSome accessor → grid_root_limit new ≡ grid_root_limit old
+    → KeepsOutside old new at → IsWrittenBy (grid_root_limit old) at change (grid_field old) (grid_field new) (Ok tt) → Writes accessor at change old new done
+written_near None at change old new some l e h = absurd (no_some (Option ℕ) some)
+written_near (Some a) at None old new some l e h = absurd h
+written_near (Some a) at (Some w) old new some l e h = ((l, (Ok tt, refl, h)), λ _. e)
 
 pub returns-in-Bool-clause-written : goal.returns-in-Bool-clause-written
 returns-in-Bool-clause-written g c = λ t.
