@@ -1,6 +1,6 @@
 #!/usr/bin/env python3
 # SPDX-License-Identifier: Apache-2.0
-"""Runs the kit's rt ci in another order, and keeps what it proves: proofs.py [--anew]
+"""Runs the kit's rt ci in another order, and keeps what it proves: .ci/proofs.py [--anew]
 
 What is proved, run and tried, and what fails, is rt's own. These functions of rt are replaced:
 
@@ -264,6 +264,8 @@ def main():
 
 
 if __name__ == "__main__":
+    if sys.argv[1:] not in ([], ["--anew"]):
+        sys.exit(print(__doc__.strip()) if "--help" in sys.argv[1:] else "proofs.py: the only options are --anew and --help")
     if not shutil.which("rt"):
         sys.exit("proofs.py: rt, the command of Rattle's kit, is not on the PATH")
     rt = load()
