@@ -2,7 +2,7 @@
 use Rattle.std.specs.Prelude.{◌≡◌, ◌≢◌, ◌⊎◌, ◌<◌, ℕ, ℤ, ⊤, Bool, not, if◌then◌else◌, IsTrue, List, Option, Some, None, length, slice_get}
 use Rattle.std.specs.Option.{option_map_or}
 use Rattle.vdb_coord.specs.Blocks.{vdb}
-use Rattle.vdb_coord.specs.Space.{Box, everywhere, is_inside}
+use Rattle.vdb_coord.specs.Space.{Box, coord, everywhere, is_inside}
 use Rattle.vdb_coord.specs.declared.Coord.{Coord}
 use Rattle.vdb_node.specs.Leaf.{cell_in, Leaf}
 use Rattle.vdb_value.specs.declared.Cell.{Cell}
@@ -40,6 +40,13 @@ module _ {V X : Type 0} (eq : V → V → Bool) (value : X → V) (background : 
     -- the field in which the voxels of a box have the cells of their elements, and all others are the inactive background
     abbrev pub field_given : Field V
     field_given = field background (λ p. if is_inside b p then cell_given p else off background)
+
+-- a coordinate, or a box, with x and z exchanged if that is wanted
+abbrev pub turned : Bool → Coord → Coord
+turned turn p = if turn then coord p.z p.y p.x else p
+
+abbrev pub turned_box : Bool → Box → Box
+turned_box turn b = record { min = turned turn b.min; max = turned turn b.max }
 
 -- the cells of a leaf by their index, or those of a blank one: each the inactive background
 abbrev pub cells_of : {V : Type 0} → V → Bool → Leaf V → Cell V → ℕ → Cell V

@@ -20,7 +20,7 @@ ghost use Rattle.vdb_scene.specs.declared.scalar.Scalar.TheVariants as scalars;
 ghost use Rattle.vdb_c.specs.BoxWrites.{box_written};
 ghost use Rattle.vdb_c.specs.Codes.{done, memory};
 ghost use Rattle.vdb_c.specs.Elements.{place as place_of};
-ghost use Rattle.vdb_c.specs.FromBox.{AreGiven, HasCells, IsBuilt, IsTreeOf, background_given, cell_at, cell_given, cell_of_element, cells_of, field_given};
+ghost use Rattle.vdb_c.specs.FromBox.{AreGiven, HasCells, IsBuilt, IsTreeOf, background_given, cell_at, cell_given, cell_of_element, cells_of, field_given, turned as turned_coord, turned_box};
 ghost use Rattle.vdb_c.specs.LeafWrites.{IsBeside};
 ghost use Rattle.vdb_c.specs.Values.{byte_is_on};
 
@@ -566,7 +566,36 @@ fn give_leaf<V: Number, T: Given<V>>(
     tree.write_leaf(p, leaf, steps)
 }
 
-/// Gives a tree without cells but the inactive background those of the elements of a box, leaf extent by leaf extent.
+/// Returns a coordinate, with x and z exchanged if `turn` is true.
+#[inline(always)]
+fn turned(p: Coord, turn: bool) -> Coord
+    ensures { result ≡ turned_coord turn p }
+{
+    if turn {
+        Coord {
+            x: p.z,
+            y: p.y,
+            z: p.x,
+        }
+    } else {
+        p
+    }
+}
+
+/// Returns a box, with x and z exchanged if `turn` is true.
+fn turned_bounds(bounds: Bounds, turn: bool) -> Bounds
+    ensures { result ≡ turned_box turn bounds }
+{
+    let min = turned(bounds.min(), turn);
+    let max = turned(bounds.max(), turn);
+    match Bounds::new(min, max) {
+        Some(order) => order,
+        None => bounds, // the corners are in order, so never
+    }
+}
+
+/// Gives a tree without cells but the inactive background those of the elements of a box, leaf extent by leaf extent: along x first if
+/// elements along x are nearer to each other than those along z, since neighbouring extents share cache lines then.
 fn give_leaves<V: Number, T: Given<V>>(
     tree: &mut Tree<V>,
     leaf: &mut Leaf<V, 3, 8>,
@@ -583,10 +612,13 @@ fn give_leaves<V: Number, T: Given<V>>(
     ensures given { OnOk result (field_of vdb tree.new ≡ field_given V.eq T.value background bounds strides.now values.now) }
     ensures full { result ≡ Err RootLimit → tree.old.limit < roots V.eq vdb (field_given V.eq T.value background bounds strides.now values.now) }
 {
-    let mut p = bounds.min();
+    let turn = strides.x < strides.z;
+    let order = turned_bounds(bounds, turn);
+    let mut p = order.min();
     'leaves: loop {
-        give_leaf(tree, leaf, p, bounds, strides, values, background, steps)?;
-        match bounds.next_block_in(Bits::VDB, Level::Leaf, p) {
+        let at = turned(p, turn);
+        give_leaf(tree, leaf, at, bounds, strides, values, background, steps)?;
+        match order.next_block_in(Bits::VDB, Level::Leaf, p) {
             Some(next) => p = next,
             None => return Ok(()),
         }
