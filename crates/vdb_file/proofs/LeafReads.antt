@@ -1,10 +1,14 @@
 -- The voxels of a leaf block, read one after another into a leaf.
-use Rattle.vdb_file.proofs.Common.{◌≡◌, ℕ, zero, suc, ◌+◌, ◌*◌, ◌<◌, ◌^◌, Bool, true, false, not, List, [], ◌∷◌, ◌++◌, length, length-append, append-nil, refl, sym, ap, subst, ◌∙◌, ◌⊎◌, inl, inr, arith, ◌↔◌, Option, Some, None, Result, Ok, Err, IfErr, IsTrue, if◌then◌else◌, w16, to_be_bytes, flat_map, nat_cmp, cases_Bool, block_around, block_number, entries, offset, sub_block, AreBits, Box, coord_eq, is_inside, Bits, Coord, Leaf, not_true, coord_equiv, coord_exact, corner_inside, corner_of_entry, entry_holds, in_entry, inside_numbered, number_in_block, voxel_from_leaf, offset_below, IsConstantLeaf, SetsVoxel, cell_in, entry_count, are_bytes_of, byte_count, Cell, Kind, cell_eq, is_background, is_constant, Field, off, cell_exact, cell_same, uniform_cells, uniform_from, cell_bytes, listed, voxel_body, LoadFault, Follows, HasValues, IsMixed, leaf_field, voxel_count, voxels_bytes, IsIndex, IsSpelled, Fails, Position, Reads, Took}
-use Rattle.std.specs.Prelude.{IfOk}
+use Rattle.vdb_file.proofs.Common.{◌≡◌, ℕ, zero, suc, ◌+◌, ◌*◌, ◌<◌, ◌≤◌, ◌^◌, Bool, true, false, not, List, [], ◌∷◌, ◌++◌, length, length-append, append-nil, refl, sym, ap, subst, ◌∙◌, ◌⊎◌, inl, inr, arith, ◌↔◌, Option, Some, None, Result, Ok, Err, IfErr, IsTrue, if◌then◌else◌, w16, to_be_bytes, flat_map, nat_cmp, cases_Bool, block_around, block_number, entries, offset, sub_block, AreBits, Box, coord_eq, is_inside, Bits, Coord, Leaf, not_true, coord_equiv, coord_exact, corner_inside, corner_of_entry, entry_holds, in_entry, inside_numbered, number_in_block, voxel_from_leaf, offset_below, IsConstantLeaf, SetsVoxel, cell_in, entry_count, are_bytes_of, byte_count, Cell, Kind, cell_eq, is_background, is_constant, Field, off, cell_exact, cell_same, uniform_cells, uniform_from, cell_bytes, listed, voxel_body, LoadFault, Follows, HasValues, IsMixed, voxel_count, voxels_bytes, IsIndex, IsSpelled, Fails, Position, Reads, Took}
+use Rattle.std.specs.Prelude.{IfOk, ◌-◌}
+use Rattle.std.specs.Cmp.{nat_cmp_is}
+use Rattle.std.proofs.Math.Dec.{ltb}
+use Rattle.std.proofs.lemmas.Bool.{le-ltb, lt-ltb, ltb-false, ltb-true}
+use Rattle.std.specs.declared.cmp.Ordering.TheVariants.{Less}
 use Rattle.std.proofs.lemmas.List.{get_or_default}
 use Rattle.vdb_coord.proofs.Positions.{entries_is}
 use Rattle.vdb_node.specs.Leaf.{Leaf as LeafOf}
-use Rattle.vdb_file.specs.internal.LeafVoxels.{IsFilled, IsVoxel, voxel_bytes}
+use Rattle.vdb_file.specs.internal.LeafVoxels.{IsFilled, IsVoxel, cells_field, voxel_bytes}
 use Rattle.vdb_file.proofs.Unambiguous.{IsCode, says_fixed}
 use Rattle.vdb_file.proofs.Numbers.{says_u16}
 use Rattle.vdb_file.proofs.ValueCodes.{bytes_count}
@@ -22,6 +26,13 @@ use Rattle.vdb_file.proofs.RowInstances.{agree_from_entries, is_leaf_row, leaf_r
 clash : (b : Bool) → b ≡ true → b ≡ false → ⊥
 clash true p q = cc
 clash false p q = cc
+
+-- a number past another one, and not equal to it
+further : (a b : ℕ) → b ≤ a → (a ≡ b → ⊥) → b + 1 ≤ a
+further a b past differ = elim (cases_Bool (ltb b a)) [
+  | inl l ↦ let less = ltb-true b a l in omega (arith, less)
+  | inr g ↦ absurd (differ (let h = ltb-false b a g in omega (arith, h, past)))
+]
 
 -- two numbers are equal or not
 same_or_other : (i j : ℕ) → (i ≡ j) ⊎ ((i ≡ j) → ⊥)
@@ -66,38 +77,62 @@ module _ {V : Type 0} (eq : V → V → Bool) (value_bytes : V → List ℕ) whe
 
 -- ---- a leaf as a field
 
-module _ {V : Type 0} (bits : Bits) (p : Coord) (background : V) (leaf : LeafOf V) where
+module _ {V : Type 0} (bits : Bits) (p : Coord) (background : V) (cells : ℕ → Cell V) where
   -- within the block the field has the leaf's cells
-  pub leaf_cell : (q : Coord) → block_number bits Leaf q ≡ block_number bits Leaf p → (leaf_field bits p background leaf).cell q ≡ cell_in (off background) leaf (offset bits Leaf q)
+  leaf_cell : (q : Coord) → block_number bits Leaf q ≡ block_number bits Leaf p → (cells_field bits p background cells).cell q ≡ cells (offset bits Leaf q)
   leaf_cell q e =
       let here : coord_eq (block_number bits Leaf p) (block_number bits Leaf q) ≡ true = ap (coord_eq (block_number bits Leaf p)) e ∙ coord_equiv.refl (block_number bits Leaf p) in
-      ap (λ (b : Bool). if b then cell_in (off background) leaf (offset bits Leaf q) else off background) here
+      ap (λ (b : Bool). if b then cells (offset bits Leaf q) else off background) here
 
   -- elsewhere it has the background
-  pub other_cell : (q : Coord) → coord_eq (block_number bits Leaf p) (block_number bits Leaf q) ≡ false → (leaf_field bits p background leaf).cell q ≡ off background
-  other_cell q e = ap (λ (b : Bool). if b then cell_in (off background) leaf (offset bits Leaf q) else off background) e
+  other_cell : (q : Coord) → coord_eq (block_number bits Leaf p) (block_number bits Leaf q) ≡ false → (cells_field bits p background cells).cell q ≡ off background
+  other_cell q e = ap (λ (b : Bool). if b then cells (offset bits Leaf q) else off background) e
 
 -- each cell of the leaf has a value with P
-abbrev pub AreCells : {V : Type 0} → (V → Type 0) → Bits → V → LeafOf V → Type 0
-AreCells P bits background leaf = (i : ℕ) → i < entries bits Leaf → P (cell_in (off background) leaf i).value
+abbrev pub AreCells : {V : Type 0} → (V → Type 0) → Bits → (ℕ → Cell V) → Type 0
+AreCells P bits cells = (i : ℕ) → i < entries bits Leaf → P (cells i).value
+
+-- the new cells have this one at a number, and are the old ones at all others
+pub record HasPut {V : Type 0} (old new : ℕ → Cell V) (i : ℕ) (cell : Cell V) : Type 0 where
+  pub here : new i ≡ cell
+  pub others : (j : ℕ) → (j ≡ i → ⊥) → new j ≡ old j
 
 -- the voxels read so far: this many, the last of them with this number
-pub record HasRead {V : Type 0} (eq : V → V → Bool) (value_bytes : V → List ℕ) (bits : Bits) (background : V) (p : Coord) (leaf : LeafOf V) (old now : Position) (n : ℕ) (before : Option ℕ) : Type 0 where
-  pub took : Took old now (voxels_bytes eq value_bytes bits p (leaf_field bits p background leaf))
-  pub count : voxel_count eq value_bytes bits p (leaf_field bits p background leaf) ≡ n
-  pub last : before ≡ last_of None (listed eq value_bytes bits (leaf_field bits p background leaf) Leaf (block_around bits Leaf p))
+pub record HasRead {V : Type 0} (eq : V → V → Bool) (value_bytes : V → List ℕ) (bits : Bits) (background : V) (p : Coord) (cells : ℕ → Cell V) (old now : Position) (n : ℕ) (before : Option ℕ) : Type 0 where
+  pub took : Took old now (voxels_bytes eq value_bytes bits p (cells_field bits p background cells))
+  pub count : voxel_count eq value_bytes bits p (cells_field bits p background cells) ≡ n
+  pub last : before ≡ last_of None (listed eq value_bytes bits (cells_field bits p background cells) Leaf (block_around bits Leaf p))
 
 module _ {V : Type 0} {eq : V → V → Bool} {value_bytes : V → List ℕ} {P : V → Type 0} (values : AreValues eq value_bytes P) (bits : Bits) (few : AreBits bits) (background : V) where
   -- at first no voxel is read
-  pub first_cells : (leaf : LeafOf V) → P background → (n : ℕ) → entries bits Leaf ≡ n → IsConstantLeaf leaf n (off background) → AreCells P bits background leaf
+  pub first_cells : (leaf : LeafOf V) → P background → (n : ℕ) → entries bits Leaf ≡ n → IsConstantLeaf leaf n (off background) → AreCells P bits (cell_in (off background) leaf)
   first_cells leaf fits n e constant i less = subst (λ (c : Cell V). P c.value) (sym (constant (off background) i (omega (arith, less, e)))) fits
 
   -- after one more cell
-  pub more_cells : (old new : LeafOf V) (i : ℕ) (cell : Cell V) → SetsVoxel old new i cell → P cell.value → AreCells P bits background old → AreCells P bits background new
-  more_cells old new i cell sets fits cells j less = elim (same_or_other j i) [
-    | inl e ↦ subst (λ (c : Cell V). P c.value) (sym (ap (cell_in (off background) new) e ∙ sets.changed (off background))) fits
-    | inr differ ↦ subst (λ (c : Cell V). P c.value) (sym (sets.others (off background) j differ)) (cells j less)
+  pub more_cells : (old new : ℕ → Cell V) (i : ℕ) (cell : Cell V) → HasPut old new i cell → P cell.value → AreCells P bits old → AreCells P bits new
+  more_cells old new i cell put fits cells j less = elim (same_or_other j i) [
+    | inl e ↦ subst (λ (c : Cell V). P c.value) (sym (ap new e ∙ put.here)) fits
+    | inr differ ↦ subst (λ (c : Cell V). P c.value) (sym (put.others j differ)) (cells j less)
   ]
+
+  -- after a row of cells
+  pub row_cells : (old new : ℕ → Cell V) (from size : ℕ) → ((j : ℕ) → j < from → new j ≡ old j) → ((j : ℕ) → from + size ≤ j → new j ≡ old j) → ((k : ℕ) → k < size → P (new (from + k)).value) → AreCells P bits old → AreCells P bits new
+  row_cells old new from size row_before row_after fits cells j less = elim (cases_Bool (ltb j from)) [
+    | inl h ↦ subst (λ (c : Cell V). P c.value) (sym (row_before j (ltb-true j from h))) (cells j less)
+    | inr h ↦
+        elim (cases_Bool (ltb j (from + size))) [
+          | inl l ↦
+              let start = ltb-false j from h in
+              let end = ltb-true j (from + size) l in
+              let e : from + (j - from) ≡ j = omega (arith, start) in
+              subst (λ (i : ℕ). P (new i).value) e (fits (j - from) (omega (arith, start, end)))
+          | inr g ↦ subst (λ (c : Cell V). P c.value) (sym (row_after j (ltb-false j (from + size) g))) (cells j less)
+        ]
+  ]
+
+  -- one cell of a leaf was set
+  pub one_put : {old new : LeafOf V} {i : ℕ} {cell : Cell V} → SetsVoxel old new i cell → HasPut (cell_in (off background) old) (cell_in (off background) new) i cell
+  one_put sets = record { here = sets.changed (off background); others = sets.others (off background) }
 
   module _ (p : Coord) where
     abbrev box : Box
@@ -109,25 +144,28 @@ module _ {V : Type 0} {eq : V → V → Bool} {value_bytes : V → List ℕ} {P 
     abbrev row : Row V ℕ
     row = leaf_row values bits few p
 
-    abbrev shown : LeafOf V → Field V
-    shown leaf = leaf_field bits p background leaf
+    abbrev shown : (ℕ → Cell V) → Field V
+    shown cells = cells_field bits p background cells
+
+    abbrev cells_of : LeafOf V → ℕ → Cell V
+    cells_of leaf = cell_in (off background) leaf
 
     -- the field's values have P too
-    pub shown_values : (leaf : LeafOf V) → P background → AreCells P bits background leaf → HasValues P background (shown leaf)
-    shown_values leaf fits cells = record {
+    shown_values : (held_cells : ℕ → Cell V) → P background → AreCells P bits held_cells → HasValues P background (shown held_cells)
+    shown_values held_cells fits cells = record {
       same = refl;
       values = λ q. elim (cases_Bool (coord_eq (block_number bits Leaf p) (block_number bits Leaf q))) [
         | inl here ↦
-            subst (λ (c : Cell V). P c.value) (sym (leaf_cell bits p background leaf q (sym (coord_exact (block_number bits Leaf p) (block_number bits Leaf q) here)))) (cells (offset bits Leaf q) (offset_below bits Leaf q))
-        | inr there ↦ subst (λ (c : Cell V). P c.value) (sym (other_cell bits p background leaf q there)) fits
+            subst (λ (c : Cell V). P c.value) (sym (leaf_cell bits p background held_cells q (sym (coord_exact (block_number bits Leaf p) (block_number bits Leaf q) here)))) (cells (offset bits Leaf q) (offset_below bits Leaf q))
+        | inr there ↦ subst (λ (c : Cell V). P c.value) (sym (other_cell bits p background held_cells q there)) fits
       ];
     }
 
     -- ---- the entries, which are single voxels
 
     -- an entry has the leaf's cell
-    entry_cell : (leaf : LeafOf V) (i : ℕ) → i < entries bits Leaf → (shown leaf).cell (at i).min ≡ cell_in (off background) leaf i
-    entry_cell leaf i less = let c = corner_of_entry bits Leaf p i less in leaf_cell bits p background leaf (at i).min c.0 ∙ ap (cell_in (off background) leaf) c.1
+    entry_cell : (cells : ℕ → Cell V) (i : ℕ) → i < entries bits Leaf → (shown cells).cell (at i).min ≡ cells i
+    entry_cell cells i less = let c = corner_of_entry bits Leaf p i less in leaf_cell bits p background cells (at i).min c.0 ∙ ap cells c.1
 
     -- an entry is background if its cell is
     background_from : (f : Field V) (i : ℕ) → i < entries bits Leaf → f.cell (at i).min ≡ off f.background → is_background eq f (at i) ≡ true
@@ -157,31 +195,31 @@ module _ {V : Type 0} {eq : V → V → Bool} {value_bytes : V → List ℕ} {P 
     constant_from f c all = uniform_from eq values.exact values.itself f box (f.cell box.min) (λ q inside. all q inside ∙ sym (all box.min (corner_in_block bits Leaf p)))
 
     -- if a leaf has only one cell, the block of any field with its cells is constant
-    constant_leaf : (f : Field V) (leaf : LeafOf V) (c : Cell V) → ((d : Cell V) (i : ℕ) → i < entries bits Leaf → cell_in d leaf i ≡ c) → Agree (shown leaf) f box → is_constant eq f box ≡ true
+    constant_leaf : (f : Field V) (leaf : LeafOf V) (c : Cell V) → ((d : Cell V) (i : ℕ) → i < entries bits Leaf → cell_in d leaf i ≡ c) → Agree (shown (cells_of leaf)) f box → is_constant eq f box ≡ true
     constant_leaf f leaf c constant agree =
         constant_from f c (λ q inside.
-        sym (agree.same q inside) ∙ leaf_cell bits p background leaf q (number_in_block bits Leaf (block_number bits Leaf p) q inside) ∙ constant (off background) (offset bits Leaf q) (offset_below bits Leaf q))
+        sym (agree.same q inside) ∙ leaf_cell bits p background (cells_of leaf) q (number_in_block bits Leaf (block_number bits Leaf p) q inside) ∙ constant (off background) (offset bits Leaf q) (offset_below bits Leaf q))
 
     -- ---- the voxels read so far
 
     -- at first no voxel is read
-    pub none_read : (leaf : LeafOf V) (old now : Position) → Took old now [] → (n : ℕ) → entries bits Leaf ≡ n → IsConstantLeaf leaf n (off background) → HasRead eq value_bytes bits background p leaf old now 0 None
+    pub none_read : (leaf : LeafOf V) (old now : Position) → Took old now [] → (n : ℕ) → entries bits Leaf ≡ n → IsConstantLeaf leaf n (off background) → HasRead eq value_bytes bits background p (cell_in (off background) leaf) old now 0 None
     none_read leaf old now nothing n e constant =
-        let empty : held eq row (shown leaf) ≡ [] =
-        none_kept (is_held eq row.box (shown leaf)) row.keys
-        (by_member (λ i. is_held eq row.box (shown leaf) i ≡ false) row.keys
+        let empty : held eq row (shown (cells_of leaf)) ≡ [] =
+        none_kept (is_held eq row.box (shown (cells_of leaf))) row.keys
+        (by_member (λ i. is_held eq row.box (shown (cells_of leaf)) i ≡ false) row.keys
         (λ i m. let less = member_below bits Leaf i m in
-        ap not (background_from (shown leaf) i less (entry_cell leaf i less ∙ constant (off background) i (omega (arith, less, e)))))) in
+        ap not (background_from (shown (cells_of leaf)) i less (entry_cell (cells_of leaf) i less ∙ constant (off background) i (omega (arith, less, e)))))) in
         record {
-          took = subst (λ (ks : List ℕ). Took old now (flat_map (λ i. to_be_bytes w16 i ++ voxel_body eq value_bytes bits (shown leaf) (at i)) ks)) (sym empty) nothing;
+          took = subst (λ (ks : List ℕ). Took old now (flat_map (λ i. to_be_bytes w16 i ++ voxel_body eq value_bytes bits (shown (cells_of leaf)) (at i)) ks)) (sym empty) nothing;
           count = ap length empty;
           last = sym (ap (last_of None) empty);
         }
 
-    module _ (old new : LeafOf V) (i : ℕ) (cell : Cell V) (sets : SetsVoxel old new i cell) (less : i < entries bits Leaf) (other : cell_eq eq cell (off background) ≡ false) where
+    module _ (old new : ℕ → Cell V) (i : ℕ) (cell : Cell V) (sets : HasPut old new i cell) (less : i < entries bits Leaf) (other : cell_eq eq cell (off background) ≡ false) where
       -- the entry has the new cell
       new_cell : (shown new).cell (at i).min ≡ cell
-      new_cell = entry_cell new i less ∙ sets.changed (off background)
+      new_cell = entry_cell new i less ∙ sets.here
 
       -- all other entries keep their cells
       kept : (q : Coord) → is_inside (at i) q ≡ false → (shown old).cell q ≡ (shown new).cell q
@@ -189,7 +227,7 @@ module _ {V : Type 0} {eq : V → V → Bool} {value_bytes : V → List ℕ} {P 
         | inl here ↦
             let e = sym (coord_exact (block_number bits Leaf p) (block_number bits Leaf q) here) in
             leaf_cell bits p background old q e
-            ∙ sym (sets.others (off background) (offset bits Leaf q) (λ same. clash (is_inside (at i) q) (entry_holds bits Leaf p q i less e same) outside))
+            ∙ sym (sets.others (offset bits Leaf q) (λ same. clash (is_inside (at i) q) (entry_holds bits Leaf p q i less e same) outside))
             ∙ sym (leaf_cell bits p background new q e)
         | inr there ↦ other_cell bits p background old q there ∙ sym (other_cell bits p background new q there)
       ]
@@ -213,6 +251,73 @@ module _ {V : Type 0} {eq : V → V → Bool} {value_bytes : V → List ℕ} {P 
             count = grown;
             last = sym (ap (last_of None) more ∙ last_more None (held eq row (shown old)) i);
           }
+
+    -- a row of voxels: the cells from a number on are new, and all others are the old ones
+    module _ (old new : ℕ → Cell V) (from : ℕ) (size : ℕ) (row_before : (j : ℕ) → j < from → new j ≡ old j) (row_after : (j : ℕ) → from + size ≤ j → new j ≡ old j) where
+      -- the cells once those below a number are new
+      abbrev mixed : ℕ → ℕ → Cell V
+      mixed k j = if ltb j (from + k) then new j else old j
+
+      mixed_in : (k j : ℕ) → j < from + k → mixed k j ≡ new j
+      mixed_in k j less = ap (λ (b : Bool). if b then new j else old j) (lt-ltb j (from + k) less)
+
+      mixed_out : (k j : ℕ) → from + k ≤ j → mixed k j ≡ old j
+      mixed_out k j past = ap (λ (b : Bool). if b then new j else old j) (le-ltb j (from + k) past)
+
+      first_at : (j : ℕ) → old j ≡ mixed 0 j
+      first_at j = elim (cases_Bool (ltb j (from + 0))) [
+        | inl h ↦ let less = ltb-true j (from + 0) h in sym (row_before j (omega (arith, less))) ∙ sym (mixed_in 0 j less)
+        | inr h ↦ sym (mixed_out 0 j (ltb-false j (from + 0) h))
+      ]
+
+      first_mixed : old ≡ mixed 0
+      first_mixed = λ i j. first_at j i
+
+      all_at : (j : ℕ) → mixed size j ≡ new j
+      all_at j = elim (cases_Bool (ltb j (from + size))) [
+        | inl h ↦ mixed_in size j (ltb-true j (from + size) h)
+        | inr h ↦ let past = ltb-false j (from + size) h in mixed_out size j past ∙ sym (row_after j past)
+      ]
+
+      all_mixed : mixed size ≡ new
+      all_mixed = λ i j. all_at j i
+
+      one_mixed : (k : ℕ) → HasPut (mixed k) (mixed (k + 1)) (from + k) (new (from + k))
+      one_mixed k = record {
+        here = mixed_in (k + 1) (from + k) (omega arith);
+        others = λ j differ. elim (cases_Bool (ltb j (from + k))) [
+          | inl h ↦ let less = ltb-true j (from + k) h in mixed_in (k + 1) j (omega (arith, less)) ∙ sym (mixed_in k j less)
+          | inr h ↦ let past = ltb-false j (from + k) h in mixed_out (k + 1) j (let more = further j (from + k) past differ in omega (arith, more)) ∙ sym (mixed_out k j past)
+        ];
+      }
+
+      module _ (n : ℕ) (before : Option ℕ) (a : Position) (at_voxel : ℕ → Position) (read : HasRead eq value_bytes bits background p old a (at_voxel 0) n before) (follows : Follows nat_cmp before from) (less : from + size ≤ entries bits Leaf)
+          (other : (k : ℕ) → k < size → cell_eq eq (new (from + k)) (off background) ≡ false) (took : (k : ℕ) → k < size → Took (at_voxel k) (at_voxel (k + 1)) (voxel_bytes eq value_bytes (from + k, new (from + k)))) where
+        -- the number of the voxel before one of the row
+        abbrev number_before : ℕ → Option ℕ
+        number_before zero = before
+        number_before (suc k) = Some (from + k)
+
+        next_follows : (k : ℕ) → Follows nat_cmp (number_before k) (from + k)
+        next_follows zero = subst (λ (j : ℕ). Follows nat_cmp before j) (omega arith) follows
+        next_follows (suc k) = sym (nat_cmp_is (from + k) (from + suc k) Less (omega arith))
+
+        read_so_far : (k : ℕ) → k ≤ size → HasRead eq value_bytes bits background p (mixed k) a (at_voxel k) (n + k) (number_before k)
+        read_so_far zero few = subst (λ (m : ℕ). HasRead eq value_bytes bits background p (mixed 0) a (at_voxel 0) m before) (omega arith) (subst (λ (cells : ℕ → Cell V). HasRead eq value_bytes bits background p cells a (at_voxel 0) n before) first_mixed read)
+        read_so_far (suc k) few =
+            let step : k + 1 ≡ suc k = omega arith in
+            let more : (n + k) + 1 ≡ n + suc k = omega arith in
+            let one = voxel_read (mixed k) (mixed (k + 1)) (from + k) (new (from + k)) (one_mixed k) (omega (arith, few, less)) (other k (omega (arith, few))) a (at_voxel k) (at_voxel (k + 1)) (n + k) (number_before k)
+            (read_so_far k (omega (arith, few))) (next_follows k) (took k (omega (arith, few))) in
+            subst (λ (m : ℕ). HasRead eq value_bytes bits background p (mixed (suc k)) a (at_voxel (suc k)) m (Some (from + k))) more (subst (λ (i : ℕ). HasRead eq value_bytes bits background p (mixed i) a (at_voxel i) ((n + k) + 1) (Some (from + k))) step one)
+
+        -- the whole row was read
+        pub row_read : (last : ℕ) → last + 1 ≡ size → HasRead eq value_bytes bits background p new a (at_voxel size) (n + size) (Some (from + last))
+        row_read last e =
+            let s : suc last ≡ size = omega (arith, e) in
+            let few : suc last ≤ size = omega (arith, e) in
+            subst (λ (cells : ℕ → Cell V). HasRead eq value_bytes bits background p cells a (at_voxel size) (n + size) (Some (from + last))) all_mixed
+            (subst (λ (i : ℕ). HasRead eq value_bytes bits background p (mixed i) a (at_voxel i) (n + i) (Some (from + last))) s (read_so_far (suc last) few))
 
     -- ---- faults
 
@@ -239,17 +344,17 @@ module _ {V : Type 0} {eq : V → V → Bool} {value_bytes : V → List ℕ} {P 
         })
         (λ e next. refl) h
 
-    module _ (leaf : LeafOf V) (fits : P background) (cells : AreCells P bits background leaf) (old mid : Position) (n count : ℕ) (before : Option ℕ) (read : HasRead eq value_bytes bits background p leaf old mid n before) where
+    module _ (held_cells : ℕ → Cell V) (fits : P background) (cells : AreCells P bits held_cells) (old mid : Position) (n count : ℕ) (before : Option ℕ) (read : HasRead eq value_bytes bits background p held_cells old mid n before) where
       -- a voxel was due, and none is ahead
       pub voxels_fail : (fault : LoadFault) → n < count → (most : ℕ) → most ≡ entries bits Leaf → Fails (IsVoxel eq P background most before) (voxel_bytes eq value_bytes) fault mid → Fails (IsListed count) (voxels_bytes eq value_bytes bits p) fault old
       voxels_fail fault more most all h =
-          let size : length (held eq row (shown leaf)) ≡ n = read.count in
-          within values (is_leaf_row values bits few p) background (λ _. []) (λ m. m ≡ count) (no_text count) (IsListed count) (λ f r. r.values) (λ f r. r.counted) fault old mid (shown leaf) (shown_values leaf fits cells) count refl
+          let size : length (held eq row (shown held_cells)) ≡ n = read.count in
+          within values (is_leaf_row values bits few p) background (λ _. []) (λ m. m ≡ count) (no_text count) (IsListed count) (λ f r. r.values) (λ f r. r.counted) fault old mid (shown held_cells) (shown_values held_cells fits cells) count refl
           (omega (arith, size, more)) read.took (subst (λ (b : Option ℕ). Fails (IsNextOf eq P row background b) (entry_bytes row) fault mid) read.last (voxel_fails most all before fault mid h))
 
       -- all voxels were read
-      pub all_read : n ≡ count → IsListed count (shown leaf) × Took old mid (voxels_bytes eq value_bytes bits p (shown leaf))
-      all_read done = (record { values = shown_values leaf fits cells; counted = read.count ∙ done }, read.took)
+      pub all_read : n ≡ count → IsListed count (shown held_cells) × Took old mid (voxels_bytes eq value_bytes bits p (shown held_cells))
+      all_read done = (record { values = shown_values held_cells fits cells; counted = read.count ∙ done }, read.took)
 
     module _ (fault : LoadFault) (old : Position) (count : ℕ) where
       -- no field with so many voxels is ahead
@@ -258,22 +363,22 @@ module _ {V : Type 0} {eq : V → V → Bool} {value_bytes : V → List ℕ} {P 
           fails_turn (IsUnlike count) (voxels_bytes eq value_bytes bits p) (IsListed count) (voxels_bytes eq value_bytes bits p) (λ f. f) fault old (λ f r. record { values = r.0.values; counted = r.1 }) (λ f r. refl) h
 
       -- all voxels have one cell
-      pub voxels_alike : (leaf : LeafOf V) (mid : Position) → IsListed count (shown leaf) → Took old mid (voxels_bytes eq value_bytes bits p (shown leaf)) → (c : Cell V) (m : ℕ) → entries bits Leaf ≡ m → IsConstantLeaf leaf m c → Fails (IsUnlike count) (voxels_bytes eq value_bytes bits p) fault old
+      pub voxels_alike : (leaf : LeafOf V) (mid : Position) → IsListed count (shown (cells_of leaf)) → Took old mid (voxels_bytes eq value_bytes bits p (shown (cells_of leaf))) → (c : Cell V) (m : ℕ) → entries bits Leaf ≡ m → IsConstantLeaf leaf m c → Fails (IsUnlike count) (voxels_bytes eq value_bytes bits p) fault old
       voxels_alike leaf mid is took c m all constant =
-          no_row values (is_leaf_row values bits few p) background (λ _. []) (λ k. k ≡ count) (no_text count) (IsUnlike count) (λ f r. r.0.values) (λ f r. r.1) fault old mid (shown leaf) is.values
+          no_row values (is_leaf_row values bits few p) background (λ _. []) (λ k. k ≡ count) (no_text count) (IsUnlike count) (λ f r. r.0.values) (λ f r. r.1) fault old mid (shown (cells_of leaf)) is.values
           is.counted took
           (λ f r agree. clash (is_constant eq f box)
-          (constant_leaf f leaf c (λ d i less. constant d i (omega (arith, less, all))) (agree_from_entries values bits few p Leaf (shown leaf) f agree)) r.0.differs)
+          (constant_leaf f leaf c (λ d i less. constant d i (omega (arith, less, all))) (agree_from_entries values bits few p Leaf (shown (cells_of leaf)) f agree)) r.0.differs)
 
     -- a leaf whose voxels differ
-    pub voxels_differ : (leaf : LeafOf V) (m : ℕ) → entries bits Leaf ≡ m → length leaf.values ≡ m → ((c : Cell V) → (◌≡◌ {A = Option (Cell V)} None (Some c)) ↔ IsConstantLeaf leaf m c) → is_constant eq (shown leaf) box ≡ false
+    pub voxels_differ : (leaf : LeafOf V) (m : ℕ) → entries bits Leaf ≡ m → length leaf.values ≡ m → ((c : Cell V) → (◌≡◌ {A = Option (Cell V)} None (Some c)) ↔ IsConstantLeaf leaf m c) → is_constant eq (shown (cells_of leaf)) box ≡ false
     voxels_differ leaf m all size given =
-        not_true (is_constant eq (shown leaf) box)
-        (λ h. let c = (shown leaf).cell box.min in
+        not_true (is_constant eq (shown (cells_of leaf)) box)
+        (λ h. let c = (shown (cells_of leaf)).cell box.min in
         let constant : IsConstantLeaf leaf m c = λ d i l.
         let less : i < entries bits Leaf = omega (arith, l, all) in
         let inside = inside_numbered bits Leaf (block_number bits Leaf p) (at i).min (corner_of_entry bits Leaf p i less).0 in
         let value = get_or_default leaf.values i d.value background (omega (arith, l, size)) in
         let any : cell_in d leaf i ≡ cell_in (off background) leaf i = λ j. record { value = value j; on = (cell_in d leaf i).on } in
-        any ∙ sym (entry_cell leaf i less) ∙ uniform_cells eq values.exact values.itself (shown leaf) box c h (at i).min inside in
+        any ∙ sym (entry_cell (cells_of leaf) i less) ∙ uniform_cells eq values.exact values.itself (shown (cells_of leaf)) box c h (at i).min inside in
         let e = (given c).1 constant in absurd cc)

@@ -8,6 +8,7 @@ pub mod PutBlocks
 pub mod Sorted
 pub mod Unambiguous
 pub mod Fronts
+pub mod FullRows
 pub mod FieldBytes
 pub mod Numbers
 pub mod Kept

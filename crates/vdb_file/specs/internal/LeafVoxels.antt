@@ -1,5 +1,5 @@
 -- The voxels of a leaf extent while they are read.
-use Rattle.std.specs.Prelude.{◌≡◌, ℕ, Bool, false, if◌then◌else◌, List, ◌++◌, length, Option}
+use Rattle.std.specs.Prelude.{◌≡◌, ℕ, Bool, true, false, if◌then◌else◌, List, ◌++◌, length, Option}
 use Rattle.std.specs.Int.{w16, to_be_bytes}
 use Rattle.vdb_coord.specs.Blocks.{block_around, block_number, offset, sub_block}
 use Rattle.vdb_coord.specs.Space.{coord_eq}
@@ -20,12 +20,16 @@ pub record HasValues {V : Type 0} (P : V → Type 0) (background : V) (f : Field
   pub values : (p : Coord) → P (f.cell p).value
 
 module _ {V : Type 0} where
-  -- the field with the cells of a leaf in p's leaf extent, and with the background elsewhere
-  abbrev pub leaf_field : Bits → Coord → V → LeafOf V → Field V
-  leaf_field bits p background leaf = record {
+  -- the field with these cells in p's leaf extent, and with the background elsewhere
+  abbrev pub cells_field : Bits → Coord → V → (ℕ → Cell V) → Field V
+  cells_field bits p background cells = record {
     background = background;
-    cell = λ q. if coord_eq (block_number bits Leaf p) (block_number bits Leaf q) then cell_in (off background) leaf (offset bits Leaf q) else off background;
+    cell = λ q. if coord_eq (block_number bits Leaf p) (block_number bits Leaf q) then cells (offset bits Leaf q) else off background;
   }
+
+  -- the field with the cells of a leaf there
+  abbrev pub leaf_field : Bits → Coord → V → LeafOf V → Field V
+  leaf_field bits p background leaf = cells_field bits p background (cell_in (off background) leaf)
 
   module _ (eq : V → V → Bool) (is_value : V → Type 0) (background : V) where
     -- a voxel that may come next in a leaf of this many: its number is past the one before, and its cell isn't the background
@@ -42,6 +46,11 @@ module _ {V : Type 0} where
     -- the number of a voxel, and then its cell
     abbrev pub voxel_bytes : ℕ × Cell V → List ℕ
     voxel_bytes e = to_be_bytes w16 e.0 ++ cell_bytes eq value_bytes e.1
+
+    -- these are the bytes of an active voxel with this number and this value
+    pub record IsActive (is_value : V → Type 0) (i : ℕ) (value : V) (bytes : List ℕ) : Type 0 where
+      pub fits : is_value value
+      pub same : voxel_bytes (i, record { value = value; on = true }) ≡ bytes
 
     -- the listed voxels of p's leaf extent, each after its number
     abbrev pub voxels_bytes : Bits → Coord → Field V → List ℕ

@@ -1,6 +1,7 @@
 //! Reads the voxels of a leaf extent.
 
-ghost use Rattle.std.specs.Prelude.{◌≡◌, ℕ, ◌+◌, ◌*◌, ◌≤◌, false, Err, IfErr, IfOk, List, Option, Some, length, take};
+ghost use Rattle.std.specs.List.{slice_range};
+ghost use Rattle.std.specs.Prelude.{◌≡◌, ℕ, ◌+◌, ◌*◌, ◌%◌, ◌<◌, ◌≤◌, false, Err, IfErr, IfOk, IfSome, List, Option, Some, length, slice_index_or, take};
 ghost use Rattle.vdb_coord.specs.Blocks.{vdb};
 ghost use Rattle.vdb_coord.specs.declared.Coord.{Coord};
 ghost use Rattle.vdb_node.specs.Leaf.{IsConstantLeaf};
@@ -9,7 +10,8 @@ ghost use Rattle.vdb_value.specs.Values.{byte_count};
 ghost use Rattle.vdb_tree.specs.Field.{off};
 ghost use Rattle.vdb_file.specs.Faults.{is_read_fault};
 ghost use Rattle.vdb_file.specs.internal.FieldFaults.{IsInner};
-ghost use Rattle.vdb_file.specs.internal.LeafVoxels.{IsFilled, IsMixed, IsVoxel, leaf_field, voxel_bytes, voxel_count, voxels_bytes};
+ghost use Rattle.vdb_file.specs.internal.Loading.{IsIndex};
+ghost use Rattle.vdb_file.specs.internal.LeafVoxels.{IsActive, IsFilled, IsMixed, IsVoxel, leaf_field, voxel_bytes, voxel_count, voxels_bytes};
 ghost use Rattle.vdb_file.specs.internal.Reading.{EndsWith, Moves, Reads, Stock, ahead, passed, position};
 
 use crate::fault::LoadFault;
@@ -17,11 +19,15 @@ use crate::loading::block_head::{index_follows, take_cell, take_index};
 use crate::loading::input::Input;
 use crate::loading::source::Source;
 use std::alloc::Global;
+use vdb_mask::Mask;
 use vdb_node::{Leaf, Stored};
 use vdb_value::{Cell, Kind, Voxel};
 
 /// The number of voxels of a leaf extent.
 pub(crate) const VOXELS: u16 = 512;
+
+/// The number of voxels of a leaf extent that differ only along z.
+const ROW: u16 = 8;
 
 /// Reads this many voxels of a leaf extent whose cells differ: all voxels that aren't the background. Returns a leaf with these
 /// cells.
@@ -101,14 +107,65 @@ fn read_voxels<V: Stored<8>>(
 {
     let size = voxels_len::<V>(1);
     let mut before = None;
+    let mut n = 0;
     let mut at = 0;
-    for _ in 0..count {
+    'rows: while let Some(row) = next_row(before, background, count - n, &bytes[at..]) {
+        leaf.set_cells(u32::from(row.0), &row.1, &Mask::filled(true));
+        before = Some(row.0 + 7);
+        n += ROW;
+        at += 8 * size;
+    }
+    'voxels: while n < count {
         let voxel = voxel_of(VOXELS, before, background, &bytes[at..at + size])?;
         leaf.set(u32::from(voxel.0), voxel.1);
         before = Some(voxel.0);
+        n += 1;
         at += size;
     }
     Ok(())
+}
+
+/// Returns the first eight of so many voxels by their bytes, if they are active and lie side by side along z: the number of the first,
+/// which must be greater than the one before, and their values.
+#[inline(always)]
+fn next_row<V: Voxel>(
+    before: Option<u16>,
+    background: V,
+    count: u16,
+    bytes: &[u8],
+) -> Option<(u16, [V; 8])>
+    requires { length bytes.now ≡ count * (3 + byte_count V.KIND) }
+    ensures few { IfSome result (λ row. 8 ≤ count) }
+    ensures length { IfSome result (λ row. length row.1 ≡ 8) }
+    ensures first { IfSome result (λ row. IsIndex 512 before row.0 × (row.0 % 8 ≡ 0)) }
+    ensures voxels { IfSome result (λ row. (k : ℕ) (d : V) → k < 8 → IsActive V.eq V.bytes_of V.is_value (row.0 + k) (slice_index_or row.1 k d)
+        (slice_range bytes.now (k * (3 + byte_count V.KIND)) (k * (3 + byte_count V.KIND) + (3 + byte_count V.KIND)))) }
+{
+    if count < ROW {
+        return None;
+    }
+    let first = u16::from_be_bytes([bytes[0], bytes[1]]);
+    if first % ROW != 0 || first >= VOXELS || !index_follows(before, first) {
+        return None;
+    }
+    let size = voxels_len::<V>(1);
+    let mut values = [background; 8];
+    'row: for k in 0..8usize {
+        values[k] = active_value(first + k as u16, &bytes[k * size..k * size + size])?;
+    }
+    Some((first, values))
+}
+
+/// Returns the value of the active voxel with these bytes, if there is one with this number.
+#[inline(always)]
+fn active_value<V: Voxel>(i: u16, bytes: &[u8]) -> Option<V>
+    requires { 3 ≤ length bytes.now }
+    ensures { IfSome result (λ value. IsActive V.eq V.bytes_of V.is_value i value bytes.now) }
+{
+    if u16::from_be_bytes([bytes[0], bytes[1]]) != i || bytes[2] != 2 {
+        return None;
+    }
+    V::from_bytes(&bytes[3..])
 }
 
 /// Reads this many voxels, one after another, into a leaf that holds nothing but the background.
