@@ -25,6 +25,5 @@ pub mod LeafFields
 pub mod GivenLeaves
 pub mod GivenFields
 pub mod BuiltGrids
-pub mod LoadFaults
 pub mod EqualCells
 pub mod PartsPast
