@@ -90,15 +90,16 @@ class KindsError(VdbError, TypeError):
 
 
 class ArrayTooLargeError(VdbError, ValueError):
-    """Dense arrays would need more bytes (`needed`) than the caller allows (`max_bytes`). `shape` is theirs in voxels."""
+    """Dense arrays would need more bytes (`needed`) than the caller allows (`max_bytes`). `shape` is theirs in voxels, and `path` their file,
+    or an empty text."""
 
     def __init__(self, shape: "tuple[int, ...]", needed: int, max_bytes: int) -> None:
         super().__init__(shape, needed, max_bytes)
-        self.shape, self.needed, self.max_bytes = shape, needed, max_bytes
+        self.shape, self.needed, self.max_bytes, self.path = shape, needed, max_bytes, ""
 
     def __str__(self) -> str:
         shape = " x ".join(f"{side:,}" for side in self.shape)
-        return f"arrays of {shape} voxels need {self.needed:,} bytes, more than max_bytes = {self.max_bytes:,}"
+        return f"{self.path and self.path + ': '}arrays of {shape} voxels need {self.needed:,} bytes, more than max_bytes = {self.max_bytes:,}"
 
 
 class SceneTooLongError(VdbError, ValueError):

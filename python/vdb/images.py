@@ -13,6 +13,7 @@
     image_turn                    the qform's quaternion b, c, d and its sign: 0,0,1,-1                         if the affine gives it
     image_shift                   the qform's offset x, y, z: 90,-126,-72                                       if the affine gives it
     image_sizes                   the voxel sizes of the header: 1,1,2.5                                        if the affine gives them
+    image_axes                    the number of axes of the array in a NIfTI or .npy file: 2, or 4 to 7         for 3
     label_names_1 to _6           names of labels, and colours: 2:left+kidney:ff8800;5:liver, cut at each 64    without names
 
 With the identity, RAS and the codes 2,0,0 are kept: only they say that it is an affine of a body.
@@ -37,7 +38,7 @@ USUAL = {"image_nifti": "2,0,0", "image_space": "right-anterior-superior"}
 ROWS = ("affine_x", "affine_y", "affine_z")
 ARRAY, LOW = "image_array", "image_low"
 #: The keys of what only some formats say, whose texts `Image.notes` has.
-NOTES = ("image_units", "image_space", "image_nifti", "image_intent", "image_name", "image_turn", "image_shift", "image_sizes")
+NOTES = ("image_units", "image_space", "image_nifti", "image_intent", "image_name", "image_turn", "image_shift", "image_sizes", "image_axes")
 KEYS = (*ROWS, ARRAY, LOW, *NOTES)
 #: The keys of the names of labels, which vdb.label_names reads and writes.
 LABELS = tuple(f"label_names_{number}" for number in range(1, 7))

@@ -140,7 +140,13 @@ def of_table(text: str) -> Names:
     rows = csv.DictReader(io.StringIO(text), delimiter="\t", quoting=csv.QUOTE_NONE)
     if not {"index", "name"} <= {*(rows.fieldnames or ())}:
         raise NoTable("the table has no columns index and name, with tabs between them")
-    return {number_of(row["index"], rows.line_num): Label(row["name"] or "", colour_of(row.get("color"), rows.line_num)) for row in rows}
+    names: Names = {}
+    for row in rows:
+        number = number_of(row["index"], rows.line_num)
+        if number in names:
+            raise ValueError(f"line {rows.line_num}: the index {number} has a name already")
+        names[number] = Label(row["name"] or "", colour_of(row.get("color"), rows.line_num))
+    return names
 
 
 def number_of(text: "str | None", line: int) -> int:
@@ -225,13 +231,18 @@ def write(path: "str | os.PathLike[str]", names: Names) -> None:
             file.write(f"{index}\t{' '.join(name.split())}\t{'#%02x%02x%02x' % colour if colour else 'n/a'}\n".encode())
 
 
-def keep(path: "str | os.PathLike[str]", names: Names, grid: str = "") -> None:
-    """Writes names to the table beside a file, or to a store of zarr. If the table isn't one of names, it stays, which is a VdbWarning."""
+def keep(path: "str | os.PathLike[str]", names: Names, grid: str = "", replaces: bool = True) -> None:
+    """Writes names to the table beside a file, or to a store of zarr. A table of the same names stays with its other columns. If the table
+    isn't one of names, or has others and `replaces` is False, it stays too, which is a VdbWarning."""
     if zarr_stores.is_store(path):
         return zarr_stores.keep_label(os.fspath(path), image_label(names))
     table = table_of(path, grid)
     try:
-        read(table)
+        found = read(table)
+        if found == names:
+            return None
+        if not replaces:
+            raise VolumeError(f"the table has other names, which label_names.write({table!r}, grid.names) replaces", table)
     except MissingFileError:
         pass
     except VolumeError as error:

@@ -21,6 +21,7 @@ import re
 import secrets
 import zlib
 from typing import Any, Callable, Dict, Iterable, Mapping, NamedTuple, Optional, Sequence, Tuple
+from urllib.parse import unquote
 
 import numpy as np
 
@@ -409,7 +410,7 @@ def multiscales(made: Volume, metadata: "Mapping[str, str]") -> "Dict[str, Any]"
     scale = np.linalg.norm(affine[:, :3], axis=0)
     start = moved(affine, made.form.low)[:, 3] if np.array_equal(affine[:, :3], np.diag(scale)) else scale * made.form.low
     long, units = {short: unit for unit, short in UNITS.items()}, metadata.get("image_units", "").split(",")
-    axes = [{"name": axis, "type": "space", "unit": long.get(unit, unit)} for axis, unit in zip("xyz", units * 3)]
+    axes = [{"name": axis, "type": "space", "unit": long.get(unit, unquote(unit))} for axis, unit in zip("xyz", units * 3)]
     level = [{"type": "scale", "scale": scale[::-1].tolist()}, {"type": "translation", "translation": start[::-1].tolist()}]
     return {
         "version": "0.4", "name": made.path.rpartition("/")[2], "axes": [{key: text for key, text in axis.items() if text} for axis in axes[::-1]],

@@ -131,7 +131,7 @@ class Anatomy(CommandCase):
             np.testing.assert_array_equal(self.pixels("out.png"), self.pixels("wanted.png"), str(given))
         self.fails("slice", "none.nii", *words, "out.png", told="none.nii: No such file")
         data = (self.folder / "head.nii").read_bytes()
-        self.fails("view", "head.vdbs", "head.nii", told="head.nii: the ending is that of a scene file or an image, which isn't overwritten")
+        self.fails("view", "head.vdbs", "head.nii", told="head.nii: the ending is that of a scene file, a table of names or an image, which isn't overwritten")
         self.assertEqual((self.folder / "head.nii").read_bytes(), data)
         self.run_it("slice", "head.nii", *words, status=2)
         np.save("head.npy", np.ones((2, 2, 2), np.uint8))

@@ -120,7 +120,7 @@ class CommandLine(CommandCase):
             del scene["back"]
             scene.save(self.folder / "a.vdbs")
         formats.write("far.nrrd", formats.Volume(np.ones((10, 9, 8), bool), np.diag([1, 1, 2]) @ np.eye(3, 4), (-5, 0, 4090)))
-        self.fails("convert", "back.vti", "b.vdbs", "--active", "far.nrrd", told="back.vti: two grids of different images, the affine [[1.0, 0.0, 0.0")
+        self.fails("convert", "back.vti", "b.vdbs", "--active", "far.nrrd", told="back.vti: far.nrrd: two grids of different images, the affine [[1.0, 0.0, 0.0")
         self.fails("convert", "a.vdbs", "b.nrrd", "--dtype", "uint8", told="a.vdbs: the value -2 at (2, 7, 4097) is outside uint8")
         self.fails("convert", "a.vdbs", "b.nhdr", told="b.nhdr: a .nhdr is only read")
         self.fails("convert", "back.vti", "b.vdbs", "--type", "bool", told="back.vti: the value 3 is neither 0 nor 1")

@@ -125,8 +125,8 @@ def opened(arguments: argparse.Namespace) -> "Tuple[str, scenefile.Grid, label_n
     Raises Problem if OUT, which would be overwritten, has the ending of such a file.
     """
     path, name, images = arguments.file, arguments.grid, tuple(formats.FORMATS)
-    if arguments.out.lower().endswith((".vdbs", ".vdbs.gz", *images)):
-        raise Problem(f"{arguments.out}: the ending is that of a scene file or an image, which isn't overwritten")
+    if arguments.out.lower().endswith((".vdbs", ".vdbs.gz", ".tsv", *images)):
+        raise Problem(f"{arguments.out}: the ending is that of a scene file, a table of names or an image, which isn't overwritten")
     if path.lower().endswith(images):
         with naming(path):
             size = os.path.getsize(path)

@@ -22,7 +22,6 @@ from ..forms import DEFAULT_LIMIT, KINDS, NAME_FORM
 from ..formats import npy
 from ..images import DTYPES
 from ..scenefile import Grid, Mask, Scene
-from ..zarr_stores import is_store
 from .common import (
     Problem, about, add_bounds, add_max_bytes, box_of, grid_of, limit_word, loaded, name_word, numbers_of, output, progress, saved, value_word,
 )  # fmt: skip
@@ -108,9 +107,7 @@ def name_of(path: str) -> str:
 def write_out(arguments: argparse.Namespace) -> None:
     """Writes a grid to a file, its states to another one, and the names of its labels to a table."""
     outs = [it for it in (arguments.out, arguments.active) if it]
-    for path in outs:
-        if path != "-":
-            formats.format_of(path)
+    formats.check_outs(*(it for it in outs if it != "-"))
     scene = loaded(arguments.source, arguments.digest)
     grid = grid_of(scene, arguments.source, arguments.grid)
     names = {} if arguments.states else names_of(arguments, arguments.grid or next(iter(scene)), grid.metadata)
@@ -119,8 +116,9 @@ def write_out(arguments: argparse.Namespace) -> None:
         volumes = formats.volume_of(
             grid, box_of(arguments.bounds), arguments.fill, arguments.dtype, arguments.max_bytes, arguments.strict
         )
-        if not arguments.active and not arguments.values_only and not is_store(arguments.out):
-            formats.check_shown(grid, volumes[0].values, volumes[1].values, arguments.fill)
+        if not arguments.values_only:
+            made, states = npy if arguments.out == "-" else formats.format_of(arguments.out), None if arguments.active else volumes[1]
+            formats.check_kept(arguments.out, made, grid, volumes[0], states, arguments.fill)
     for path, volume in zip(outs, volumes):
         if path == "-":
             with output(path) as file:

@@ -21,10 +21,10 @@ from typing import Any, Dict, Iterator, Mapping, Sequence, Tuple, Type, TypeVar
 import numpy as np
 
 from .. import label_names
-from ..errors import DtypeError, FileError, GeometryError, RangeError, VdbError, VdbWarning, VolumeError
+from ..errors import ArrayTooLargeError, DtypeError, FileError, GeometryError, RangeError, VdbError, VdbWarning, VolumeError
 from ..files import naming, replacing
 from ..forms import DEFAULT_LIMIT, KINDS, Array, Bounds, Coordinate, Progress, Value, check_bounds, check_coordinate, kind_of
-from ..images import DTYPES, Image, affine_of, check_same, moved, rows_of
+from ..images import DTYPES, KEYS, LABELS, Image, affine_of, check_same, moved, rows_of
 from ..reading import MAX_BYTES, Readable, check_grid
 from ..zarr_stores import is_store
 from . import nifti, npy, nrrd, ome_zarr, tiff, vti
@@ -73,14 +73,25 @@ def format_of(path: "str | os.PathLike[str]", told: str = "") -> Any:
 
 
 @contextlib.contextmanager
+def about(path: "str | os.PathLike[str]") -> Iterator[None]:
+    """Names a file in the errors of the package in its block."""
+    try:
+        yield
+    except (VolumeError, ArrayTooLargeError) as error:
+        error.path = os.fspath(path)
+        raise
+    except VdbError as error:
+        if isinstance(error.args[0], str):
+            error.args = (f"{os.fspath(path)}: {error.args[0]}", *error.args[1:])
+        raise
+
+
+@contextlib.contextmanager
 def reading(path: str) -> Iterator[None]:
     """Names a file in the errors of its block. What another library raises for a faulty file is a VolumeError."""
     try:
-        with naming(path):
+        with about(path), naming(path):
             yield
-    except VolumeError as error:
-        error.path = path
-        raise
     except ImportError as error:
         raise ImportError(f"{path}: {error}") from error
     except MemoryError:
@@ -171,14 +182,17 @@ def unnamed(
 ) -> G:  # fmt: skip
     """Returns a file as a grid, as `load` does, without the names of labels."""
     volume = read(path, max_bytes)
-    at = volume.origin or (0, 0, 0) if origin is None else check_coordinate(origin, "origin")
-    values = volume.values if kind is None else as_kind(volume.values, kind_of(kind))
-    image = image_of(volume, at, affine_of(metadata or {}))
+    with about(path):
+        at = volume.origin or (0, 0, 0) if origin is None else check_coordinate(origin, "origin")
+        values = volume.values if kind is None else as_kind(volume.values, kind_of(kind))
+        image = image_of(volume, at, affine_of(metadata or {}))
     if isinstance(active, (str, os.PathLike)):
         active = states_of(active, max_bytes, volume, image)
     active, background = (volume.states if active is None else active), (volume.background if background is None else background)
-    grid = form.from_array(values, active, at, background, limit, metadata, progress)  # type: ignore[attr-defined]
-    image.keep(grid.metadata)
+    with about(path):
+        pairs = {**volume.metadata, **(metadata or {})}
+        grid = form.from_array(values, active, at, background, limit, pairs, progress)  # type: ignore[attr-defined]
+        image.keep(grid.metadata)
     return grid
 
 
@@ -199,11 +213,9 @@ def states_of(path: "str | os.PathLike[str]", max_bytes: int, volume: Volume, im
         found = found._replace(affine=None)
     if volume.origin and found.origin:
         low = check_coordinate(np.subtract(found.origin, volume.origin) + low, "origin")
-    try:
+    with about(path):
         states = as_kind(found.values, KINDS["bool"])
-    except RangeError as error:
-        raise RangeError(f"{os.fspath(path)}: {error}") from error
-    check_same(image.pairs(), image_of(found, low, image.affine).pairs(), "states of a .npy file, or an array, are taken as they lie")
+        check_same(image.pairs(), image_of(found, low, image.affine).pairs(), "states of a .npy file, or an array, are taken as they lie")
     return states
 
 
@@ -226,10 +238,12 @@ def save(
     box. Active voxels outside the image are a VdbWarning, or with `strict` a GeometryError. `bounds`, `fill`, `dtype` and `max_bytes` are
     those of `to_array`. `progress` is called with the number of voxels that are read, and of all.
 
-    A store of zarr keeps states and background, and any other file of values shows no states. So without `active` or `values_only` a bool grid whose values and states differ is a RangeError: save
-    a `Mask` of it. Active voxels of an integer grid that have the background, as after `dilate`, are a VdbWarning.
+    A store of zarr keeps states and background, and any other file of values shows no states. So without `active` or `values_only` a bool
+    grid whose values and states differ is a RangeError: save a `Mask` of it. In an integer grid, active voxels that have the background, as
+    after `dilate`, and inactive ones that have another value, as after `subtract`, are a VdbWarning. Metadata pairs and a background that
+    the format doesn't keep are one too, unless `values_only` is set.
 
-    The names of labels go to a table beside the file, unless it has one, or into a store of zarr.
+    The names of labels go to a table beside the file, or into a store of zarr. A table with other names stays, which is a VdbWarning.
 
     Raises the errors of `write` and `to_array`, DtypeError for anything but a grid, RangeError with a value that the dtype doesn't hold and
     its coordinate, and VolumeError if the metadata pairs of the image have another form.
@@ -241,19 +255,24 @@ def save(
     >>> formats.save("mask.npy", mask).origin, np.load("mask.npy").shape, int(np.load("mask.npy").sum())
     ((-2, -2, -2), (8, 8, 8), 304)
     """
-    for name in (path, active):
-        if name is not None:
-            format_of(name)
+    check_outs(path, active)
     volume, states = volume_of(grid, bounds, fill, dtype, max_bytes, strict, progress)
     names = grid.names
-    if active is None and not values_only and not is_store(path):
-        check_shown(grid, volume.values, states.values, fill)
+    if not values_only:
+        check_kept(path, format_of(path), grid, volume, None if active else states, fill)
     write(path, volume)
     if active is not None:
         write(active, states)
-    if names and (is_store(path) or not os.path.exists(label_names.table_of(path))):
-        label_names.keep(path, names)
+    if names:
+        label_names.keep(path, names, replaces=False)
     return volume
+
+
+def check_outs(*paths: "str | os.PathLike[str] | None") -> None:
+    """Raises RangeError if the ending of a file to write is that of no format, or two are the same file."""
+    found = [os.path.realpath(path) for path in paths if path and format_of(path)]
+    if len({*found}) < len(found):
+        raise RangeError(f"{paths[0]!s}: the values and the states go to two files")
 
 
 def volume_of(
@@ -280,11 +299,29 @@ def volume_of(
     made = Volume(values, affine, low)
     if image:
         made = made._replace(notes=image.notes, offset=(low[0] - image.low[0], low[1] - image.low[1], low[2] - image.low[2]))
-    return made._replace(states=None if fill is not None else states, background=grid.background), made._replace(values=states)
+    pairs = {key: text for key, text in grid.metadata.items() if key not in (*KEYS, *LABELS)}
+    return made._replace(states=None if fill is not None else states, background=grid.background, metadata=pairs), made._replace(values=states)
+
+
+def check_kept(
+    path: "str | os.PathLike[str]", made: Any, grid: Readable, volume: Volume, states: "Volume | None", fill: "Value | None"
+) -> None:  # fmt: skip
+    """Warns of metadata pairs and of a background that a file of a format doesn't keep. If `states` are given, checks that the values show
+    them. An affine needs no pair of a space that is turned to RAS."""
+    if made is ome_zarr:
+        return
+    kept = (*made.KEEPS, *LABELS, *(["image_space"] if made is not npy and grid.metadata.get("image_space", "").lower() in nrrd.SPACES else []))
+    lost = [key for key in grid.metadata if key not in kept]
+    lost += [f"the background {grid.background}"] if grid.background and fill is None else []
+    if lost:
+        warnings.warn(f"{os.fspath(path)}: the format doesn't keep {', '.join(lost)}", VdbWarning, stacklevel=3)
+    if states:
+        check_shown(grid, volume.values, states.values, fill)
 
 
 def check_shown(grid: Readable, values: np.ndarray, states: np.ndarray, fill: "Value | None") -> None:
-    """Raises RangeError if values of a bool grid differ from the states, and warns of active voxels with the value of inactive ones."""
+    """Raises RangeError if values of a bool grid differ from the states, and warns of active voxels with the value of inactive ones, and of
+    inactive ones with another value."""
     if grid.kind == "bool":
         differ = np.count_nonzero((values != 0) != states)
         if differ:
@@ -293,10 +330,15 @@ def check_shown(grid: Readable, values: np.ndarray, states: np.ndarray, fill: "V
                 "values_only=True (--values-only) the values"
             )
         return
-    hidden = np.count_nonzero((values == (grid.background if fill is None else fill)) & states)
-    if hidden:
-        told = "dilate(n, value=..) and dilate_label give them a value, and values_only=True (--values-only) saves them as they are"
-        warnings.warn(f"{hidden:,} active voxels look like inactive ones in the file: {told}", VdbWarning, stacklevel=3)
+    blank = values == (grid.background if fill is None else fill)
+    hidden, shown = np.count_nonzero(blank & states), np.count_nonzero(~(blank | states))
+    for count, look, told in (
+        (hidden, "active voxels look like inactive ones", "dilate(n, value=..) and dilate_label give them a value"),
+        (shown, "inactive voxels look like active ones", f"fill={grid.background} (--fill {grid.background}) writes the background for them"),
+    ):
+        if count:
+            as_they_are = "values_only=True (--values-only) saves them as they are"
+            warnings.warn(f"{count:,} {look} in the file: {told}, and {as_they_are}", VdbWarning, stacklevel=4)
 
 
 def dtype_of(dtype: Any) -> np.dtype:

@@ -19,8 +19,8 @@ import numpy as np
 
 from ..errors import VdbWarning, VolumeError
 from ..forms import Coordinate
-from ..images import USUAL, identity, numbers_of, text_of
-from .volume import Volume, allow, check_room, flat, integers, package, quiet, stored
+from ..images import KEYS, USUAL, identity, numbers_of, text_of
+from .volume import Volume, allow, axes_note, check_room, flat, integers, package, quiet, stored, with_axes
 
 #: The greatest side of an image of version 1.
 MOST = 2**15 - 1
@@ -28,6 +28,8 @@ MOST = 2**15 - 1
 SPACE, UNITS = 7, {1: "m", 2: "mm", 3: "um"}
 #: The fields of a qform by the notes that keep them.
 QFORM = {"image_turn": ("quatern_b", "quatern_c", "quatern_d"), "image_shift": ("qoffset_x", "qoffset_y", "qoffset_z")}
+#: The metadata pairs that files keep.
+KEEPS = {*KEYS} - {"image_space"}
 INTENT = ("intent_code", "intent_p1", "intent_p2", "intent_p3")
 
 
@@ -56,7 +58,8 @@ def read(path: str, max_bytes: int, floats: bool = False) -> Volume:
         while deflated and source.read(2**20):
             pass  # the checksum is at the end
     affine = affine_of(image.header)
-    return Volume(values, affine, origin_of(image.header), notes_of(image.header, affine), dtype if scale == (1, 0) else None)
+    notes = {**notes_of(image.header, affine), **axes_note(image.shape)}
+    return Volume(values, affine, origin_of(image.header), notes, dtype if scale == (1, 0) else None)
 
 
 def header_size(data: bytes) -> int:
@@ -140,7 +143,7 @@ def fill(header: Any, names: "tuple[str, ...]", numbers: Any) -> None:
 
 def write(file: BinaryIO, path: str, volume: Volume) -> None:
     """Writes an image: of version 2 if a side doesn't fit version 1, or the image was of version 2."""
-    library, values = nibabel(), np.asfortranarray(stored(volume.values))
+    library, values = nibabel(), np.asfortranarray(with_axes(stored(volume.values), volume.notes))
     form = library.Nifti2Image if max(values.shape) > MOST or codes_of(volume.notes)[3:] else library.Nifti1Image
     affine = identity() if volume.affine is None else volume.affine
     image = form(values, None, dtype=values.dtype)

@@ -10,9 +10,12 @@ from typing import Any, BinaryIO, Tuple
 import numpy as np
 
 from ..errors import VolumeError
-from .volume import Volume, allow, check_room, flat, integers
+from ..images import ARRAY
+from .volume import Volume, allow, axes_note, check_room, flat, integers, with_axes
 
 FORMAT = np.lib.format
+#: The metadata pairs that files keep.
+KEEPS = {ARRAY, "image_axes"}
 
 
 def read(path: str, max_bytes: int, floats: bool = False) -> Volume:
@@ -27,9 +30,9 @@ def read(path: str, max_bytes: int, floats: bool = False) -> Volume:
     check_room(size - begins, needed)
     allow(sides, dtype, max_bytes)
     if not needed:
-        return Volume(np.zeros(sides, dtype))
+        return Volume(np.zeros(sides, dtype), notes=axes_note(shape))
     values = np.memmap(path, dtype, "r", begins, sides, "F" if in_columns else "C")
-    return Volume(integers(values, floats=floats), dtype=dtype)
+    return Volume(integers(values, floats=floats), notes=axes_note(shape), dtype=dtype)
 
 
 def header(file: BinaryIO) -> Tuple[Tuple[int, ...], bool, np.dtype]:
@@ -48,4 +51,4 @@ def write(file: BinaryIO, _path: str, volume: Volume) -> None:
     """Writes an array."""
     # NumPy asks a file for its position, which a pipe has not; of another object it only writes
     target: Any = file if file.seekable() else SimpleNamespace(write=file.write)
-    np.save(target, volume.values)
+    np.save(target, with_axes(volume.values, volume.notes))

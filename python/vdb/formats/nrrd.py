@@ -6,6 +6,7 @@ NIfTI; other spaces are taken as they are. A note of the image keeps the space, 
 """
 from __future__ import annotations
 
+import errno
 import gzip
 import math
 import os
@@ -18,7 +19,7 @@ import numpy as np
 
 from ..errors import VdbWarning, VolumeError
 from ..forms import TEXT_FORM
-from ..images import USUAL, identity, number_of
+from ..images import ARRAY, LOW, ROWS, USUAL, identity, number_of
 from .volume import Volume, allow, check_room, flat, integers, planes, stored
 
 #: The most bytes of a header.
@@ -51,6 +52,10 @@ SPACES = {
     "lps": (-1, -1),
 }  # fmt: skip
 ORIGIN = "vdb_origin"
+#: The metadata pairs that files keep.
+KEEPS = {*ROWS, ARRAY, LOW, "image_units", "image_space"}
+#: The fields of a place.
+PLACE = ("space", "space directions", "space origin", "axis mins")
 
 Fields = Dict[str, str]
 
@@ -64,10 +69,11 @@ def read(path: str, max_bytes: int, floats: bool = False) -> Volume:
     allow(sides, dtype, max_bytes)
     raw = values_of(data or path, 0 if data else begins, fields, math.prod(sides) * dtype.itemsize)
     affine = affine_of(fields)
-    lost = [name for name in ("space directions", "axis mins") if name.replace(" ", "") in fields]
-    if lost and (affine is None or lost == ["axis mins"]):
+    known = () if affine is None else PLACE if "spacedirections" in fields else PLACE[:1]
+    lost = [name for name in PLACE if name.replace(" ", "") in fields and name not in known]
+    if lost:
         warnings.warn(f"{path}: a place of this form isn't read, so it is lost: {', '.join(lost)}", VdbWarning, stacklevel=5)
-    notes = {} if affine is None else notes_of(fields)
+    notes = notes_of(fields if known else {**fields, "space": ""})
     return Volume(integers(raw.view(dtype).reshape(sides, order="F"), floats=floats), affine, origin_of(fields), notes, dtype)
 
 
@@ -136,7 +142,10 @@ def data_file(path: str, fields: Fields) -> Optional[str]:
         return None
     if os.path.isabs(name) or ".." in name.split("/") or name.startswith("LIST") or "%" in name:
         raise VolumeError(f"the data file {name}, where one file in the folder of the header is read")
-    return os.path.join(os.path.dirname(path), name)
+    place = os.path.join(os.path.dirname(path), name)
+    if not os.path.isfile(place):
+        raise FileNotFoundError(errno.ENOENT, f"No such file as its data file {name}")
+    return place
 
 
 def values_of(path: str, begins: int, fields: Fields, needed: int) -> np.ndarray:

@@ -7,14 +7,15 @@ import os
 import warnings
 from itertools import product
 from typing import Any, Dict, Iterator, List, Mapping, NamedTuple
+from urllib.parse import quote
 
 import numpy as np
 
 from .. import zarr_stores
 from ..errors import VdbWarning, VolumeError
 from ..files import naming
-from ..forms import KINDS, check_box, kind_of_array
-from ..images import Image, affine_of, identity, moved
+from ..forms import KINDS, Metadata, check_box, kind_of_array
+from ..images import KEYS, Image, affine_of, identity, moved
 from .volume import Volume, allow, integers, package
 
 #: How many voxels a chunk has along each axis, and a block that is written at a time.
@@ -43,7 +44,8 @@ def read(path: str, max_bytes: int, floats: bool = False) -> Volume:
     values, states = volume.read(box)
     low = check_box(box[0], values.shape)
     notes, dtype = (image.notes, image.dtype) if image else ({}, values.dtype)
-    return Volume(values, moved(affine_of(about["metadata"]), low), low, notes, dtype, states=states, background=form.background)
+    affine, pairs = moved(affine_of(about["metadata"]), low), {key: text for key, text in about["metadata"].items() if key not in KEYS}
+    return Volume(values, affine, low, notes, dtype, states=states, background=form.background, metadata=pairs)
 
 
 def write_store(path: str, volume: Volume) -> None:
@@ -64,7 +66,7 @@ def write_store(path: str, volume: Volume) -> None:
             box = np.array([first, np.add(first, values[part].shape) - 1]) + low
             yield target.write(box, values[part], None if volume.states is None else volume.states[part])
 
-    zarr_stores.write_volume(zarr_stores.path_of(path), form, image.pairs(), {}, written)
+    zarr_stores.write_volume(zarr_stores.path_of(path), form, Metadata({**volume.metadata, **image.pairs()}), {}, written)
 
 
 class Opened(NamedTuple):
@@ -95,9 +97,30 @@ def opened(path: str) -> Opened:
             os.stat(path)
     try:
         found = library.open(path, mode="r")
-        return Opened(found, [0, 1, 2], identity(), {}, {}, False) if isinstance(found, library.Array) else level_0(found)
+        made = Opened(found, axes_of(found), identity(), {}, {}, False) if isinstance(found, library.Array) else level_0(found)
+        return made._replace(array=whole(made.array, path))
     except Exception as error:
         raise VolumeError(f"no image of zarr: {type(error).__name__}: {error}", path) from error
+
+
+def axes_of(array: Any) -> "List[int]":
+    """Returns the places of the axes x, y and z of an array, which xarray may have named, else the first three."""
+    names = array.attrs.get("_ARRAY_DIMENSIONS", [])
+    return [names.index(axis) for axis in "xyz"] if sorted(names) == ["x", "y", "z"] else [0, 1, 2]
+
+
+def whole(array: Any, path: str) -> Any:
+    """Returns an array whose chunks of Blosc are a VolumeError if they were cut short: Blosc itself would read past their end."""
+    if array.compressor and array.compressor.codec_id == "blosc":
+        decode = array.compressor.decode
+
+        def checked(data: Any, *out: Any) -> Any:
+            if int.from_bytes(bytes(data[12:16]), "little") != len(data):
+                raise VolumeError(f"a chunk of {len(data):,} bytes, which isn't the length that Blosc wrote", path)
+            return decode(data, *out)
+
+        array.compressor.decode = checked
+    return array
 
 
 def level_0(group: Any) -> Opened:
@@ -114,9 +137,13 @@ def level_0(group: Any) -> Opened:
     affine = identity()
     for change in (*level.get("coordinateTransformations", ()), *images[0].get("coordinateTransformations", ())):
         affine = changed(affine, change, order)
-    units = [zarr_stores.UNITS.get(axes[at].get("unit", ""), axes[at].get("unit", "")) for at in order]
-    notes = {"image_units": ",".join(units[:1] if len({*units}) == 1 else units)} if all(units) else {}
-    has_states = "vdb" in attributes and any(group[level["path"][: -len(zarr_stores.ARRAYS[0])] + zarr_stores.SUMS][1].flat)
+    units = [zarr_stores.UNITS.get(axes[at].get("unit", ""), quote(axes[at].get("unit", ""))) for at in order]
+    notes = {"image_units": ",".join(units[:1] if len({*units}) == 1 else units)} if any(units) else {}
+    own, has_states = attributes.get("vdb"), False
+    if own:  # OME-Zarr keeps no more than the sizes of voxels of most affines
+        affine, image = moved(affine_of(own["metadata"]), own["low"]), Image.of(own["metadata"])
+        notes = dict(image.notes) if image else notes
+        has_states = own["background"] != 0 or any(group[level["path"][: -len(zarr_stores.ARRAYS[0])] + zarr_stores.SUMS][1].flat)
     return Opened(array, order, affine, notes, attributes.get("image-label", {}), has_states)
 
 

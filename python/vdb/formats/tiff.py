@@ -9,18 +9,21 @@ from __future__ import annotations
 import math
 import os
 import re
+import warnings
 from types import SimpleNamespace
 from typing import Any, BinaryIO, Dict, List, Mapping
 from urllib.parse import quote
 
 import numpy as np
 
-from ..errors import VolumeError
+from ..errors import VdbWarning, VolumeError
 from ..forms import check_coordinate
-from ..images import identity
+from ..images import ARRAY, LOW, ROWS, identity
 from .volume import Volume, allow, check_room, flat, integers, package, quiet, stored
 
 UNCOMPRESSED = 1
+#: The metadata pairs that files keep.
+KEEPS = {*ROWS, ARRAY, LOW, "image_units"}
 LOGGERS = ("tifffile", "tifffile.tifffile")
 #: How ImageJ and OME write the unit of lengths that NIfTI calls um.
 MICRONS = ("micron", "\u00b5m", "\\u00B5m")
@@ -39,8 +42,8 @@ def read(path: str, max_bytes: int, floats: bool = False) -> Volume:
         series = file.series[0]
         axes = [(axis, side) for axis, side in zip(series.axes, series.shape) if side != 1 or axis in "YX"]
         names = "".join(axis for axis, _ in axes)
-        if not names.endswith("YX") or set(names) & set("SC"):
-            raise VolumeError(f"the axes {series.axes} of the shape {series.shape}, where a grid takes pages of one number a voxel")
+        if not names.endswith("YX") or set(names) & set("SCT"):
+            raise VolumeError(f"the axes {series.axes} of the shape {series.shape}, where a grid takes one number a voxel and pages along z")
         sides = flat([side for _, side in reversed(axes)], "a stack")
         allow(sides, series.dtype, max_bytes)
         size = os.path.getsize(path)
@@ -49,7 +52,11 @@ def read(path: str, max_bytes: int, floats: bool = False) -> Volume:
         if series.keyframe.compression == UNCOMPRESSED:
             check_room(size, math.prod(sides) * series.dtype.itemsize // (8 if series.dtype == np.bool_ else 1))
         values = integers(series.asarray().reshape(sides[::-1]).T, floats=floats)
-        return placed(values, (file.shaped_metadata or [sizes_of(file)])[0])._replace(dtype=series.dtype)
+        made = placed(values, (file.shaped_metadata or [sizes_of(file)])[0])._replace(dtype=series.dtype)
+        unit, *sizes = (file.pages[0].tags.valueof(name, 1) for name in ("ResolutionUnit", "XResolution", "YResolution"))
+        if made.affine is None and unit > 1:  # 1 is no unit
+            warnings.warn(f"{path}: a resolution without the size of voxels along z isn't read, so it is lost: {sizes}", VdbWarning, stacklevel=5)
+        return made
 
 
 def sizes_of(file: Any) -> "Dict[str, Any]":

@@ -25,8 +25,8 @@ class Volume(NamedTuple):
 
     `affine` (3 x 4, float64) maps the INDEX of a voxel to its place in the world. `origin` is the coordinate of the first voxel. Either is
     None if the file doesn't say. `notes` are texts by the keys of vdb.images.NOTES, of an image in which the first voxel has the index
-    `offset`. `dtype` is that of the values in the file, if it isn't the array's. `states` (bool) and `background` are of a grid, in a format
-    that keeps them, or None.
+    `offset`. `dtype` is that of the values in the file, if it isn't the array's. `states` (bool), `background` and the
+    further `metadata` are of a grid, in a format that keeps them, or None.
 
     Examples
     --------
@@ -43,6 +43,7 @@ class Volume(NamedTuple):
     offset: Coordinate = (0, 0, 0)
     states: "np.ndarray | None" = None
     background: "Value | None" = None
+    metadata: Mapping[str, str] = {}
 
     def __repr__(self) -> str:
         return f"<Volume {self.values.dtype}, shape {self.values.shape}, origin {self.origin}>"
@@ -51,6 +52,19 @@ class Volume(NamedTuple):
 def stored(values: np.ndarray) -> np.ndarray:
     """Returns values for a file, whose formats have bytes 0 and 1 in place of booleans, and no floats of 16 bits."""
     return values.view(np.uint8) if values.dtype == np.bool_ else values.astype(np.float32) if values.dtype == np.float16 else values
+
+
+def axes_note(shape: Sequence[int]) -> Mapping[str, str]:
+    """Returns the note of the number of axes of an array in a file, none for three."""
+    return {} if len(shape) == 3 else {"image_axes": str(len(shape))}
+
+
+def with_axes(values: np.ndarray, notes: Mapping[str, str]) -> np.ndarray:
+    """Returns values with the number of axes that the file of their image had: without z, or with further axes of one voxel."""
+    told = notes.get("image_axes")
+    if told == "2" and values.shape[2] == 1:
+        return values[:, :, 0]
+    return values.reshape(*values.shape, *[1] * (int(told) - 3)) if told in ("4", "5", "6", "7") else values
 
 
 def planes(values: np.ndarray) -> "Iterator[np.ndarray]":

@@ -19,13 +19,15 @@ import numpy as np
 
 from ..errors import VolumeError
 from ..forms import Coordinate, check_coordinate
-from ..images import identity, moved, number_of
+from ..images import ARRAY, LOW, ROWS, identity, moved, number_of
 from .volume import Volume, allow, check_room, integers, planes, stored
 
 Element = ElementTree.Element
 #: The dtypes by the words of the format.
 TYPES = {f"{sign}Int{bits}": f"{sign.lower()}int{bits}" for sign in ("", "U") for bits in (8, 16, 32, 64)}
 TYPES.update({"Float32": "float32", "Float64": "float64"})
+#: The metadata pairs that files keep.
+KEEPS = {*ROWS, ARRAY, LOW}
 ZLIB = "vtkZLibDataCompressor"
 #: How many bytes are deflated together.
 BLOCK = 1 << 20
