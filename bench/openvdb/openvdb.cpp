@@ -2,7 +2,7 @@
 // Plays the script language of vdb on the grids of OpenVDB, so that both can be measured on the same scripts. ../README.md says
 // what it can't do and where its answers differ. It writes each answer before it reads the next line.
 
-#include "grids.h"
+#include "script.h"
 
 #include <openvdb/tools/Composite.h>
 #include <openvdb/tools/Count.h>

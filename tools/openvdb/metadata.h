@@ -1,5 +1,6 @@
 // SPDX-License-Identifier: Apache-2.0
-// Metadata of OpenVDB's grids made into the pairs and the limit of a scene's grid, and back; names of grids made into a scene's.
+// Metadata and transforms of OpenVDB's grids made into the pairs and the limit of a scene's grid, and back; names of grids made into a
+// scene's.
 #pragma once
 
 #include "program.h"
@@ -27,3 +28,10 @@ void store_metadata(openvdb::MetaMap& metadata, const scene::Header& header);
 /// `_` for any other byte and `g_` in front if it doesn't begin with a letter, is cut to 16 bytes, and ends in a number if it would be
 /// there twice. An empty one is `grid`.
 std::vector<std::string> names_in_scene(const std::vector<std::string>& names);
+
+/// Keeps a grid's transform as the pairs affine_x, affine_y and affine_z, which replace those of another one. An identity is kept
+/// by no pairs. Reports a transform that isn't linear or finite, and one for which the pairs leave no room.
+void keep_transform(const openvdb::GridBase& grid, const std::string& name, scene::Pairs& pairs, const Notices& notices);
+
+/// Sets the transform of pairs, unless they have none, or one that OpenVDB takes for singular.
+void set_transform(openvdb::GridBase& grid, const scene::Pairs& pairs);

@@ -1,7 +1,6 @@
 // SPDX-License-Identifier: Apache-2.0
 // Converts a file of OpenVDB to a scene file.
 
-#include "affine.h"
 #include "encode.h"
 #include "metadata.h"
 #include "vdb_file.h"

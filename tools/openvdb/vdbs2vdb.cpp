@@ -1,7 +1,6 @@
 // SPDX-License-Identifier: Apache-2.0
 // Converts a scene file to a file of OpenVDB.
 
-#include "affine.h"
 #include "decode.h"
 #include "metadata.h"
 #include "output_file.h"
