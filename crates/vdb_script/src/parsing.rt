@@ -38,7 +38,9 @@ fn kind_named(token: &[u8]) -> Option<Kind>
     }
 }
 
-/// Returns the value that a token writes: `true`, `false` or a number.
+/// Returns the value that a token writes: `true`, `false` or a number. It is inlined, as `point_of` is: the result of a call is
+/// cleared, written and copied.
+#[inline(always)]
 fn literal_of(token: &[u8]) -> Option<Literal>
     ensures { result ≡ literal_of token.now }
 {
@@ -71,6 +73,7 @@ fn accessor_of(token: &[u8]) -> Option<Option<Num>>
 }
 
 /// Returns the coordinate that three tokens write.
+#[inline(always)]
 fn point_of(x: &[u8], y: &[u8], z: &[u8]) -> Option<Point>
     ensures { MatchOption result (point (x.now ∷ y.now ∷ z.now ∷ []) ≡ None) (λ at. (rest : List (List ℕ)) → point (x.now ∷ y.now ∷ z.now ∷ rest) ≡ Some (at, rest)) }
 {
