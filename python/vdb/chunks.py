@@ -278,8 +278,8 @@ def from_array(
 ) -> Chunks:  # fmt: skip
     """Writes a label volume to a folder and returns it. Voxels other than the background are active.
 
-    `values` is an array of dask, zarr or NumPy with the axes x, y, z, or the path of a zarr store, which may be an image of OME-Zarr: then
-    its axes are named, and its level 0 is taken. Its dtype is one that `Grid.from_array` takes, and the store keeps it. `origin` is the
+    `values` is an array of dask, zarr or NumPy with the axes x, y, z, or the path of a zarr store. If that is one of xarray or OME-Zarr,
+    its axes are those named so, and level 0 is taken. Its dtype is one that `Grid.from_array` takes, and the store keeps it. `origin` is the
     coordinate of `values[0, 0, 0]`. `side` is a multiple of 8 up to 512 voxels, that of a chunk. `metadata` are pairs; those of the image
     of a store replace theirs. `names` are those of labels, else those in the store.
 
