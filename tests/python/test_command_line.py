@@ -42,6 +42,16 @@ class CommandLine(CommandCase):
         self.run_it("convert", "a.vdbs", "out.npy", "--grid", "lab", "--fill", "8")
         np.testing.assert_array_equal(np.load(self.folder / "out.npy"), np.where(self.values == 0, 8, self.values))
 
+    def test_images(self):
+        """Labels and faces of an image are those of a scene's grid of the same voxels, whose name may be left out."""
+        self.assertEqual(self.run_it("labels", "in.npy"), "-2 1 7 7 7 7 7 7\n3 36 2 2 1 4 3 6\n")
+        self.run_it("convert", "in.npy", "in.vdbs", "--grid", "in")
+        self.assertEqual(self.run_it("labels", "in.vdbs"), self.run_it("labels", "in.npy"))
+        for words in (("in.npy",), ("in.vdbs", "in"), ("in.vdbs",)):
+            self.run_it("mesh", *words, f"{len(words)}{words[0]}.obj")
+        self.assertEqual(*((self.folder / name).read_text() for name in ("1in.npy.obj", "2in.vdbs.obj")))
+        self.assertEqual((self.folder / "1in.vdbs.obj").read_text().count("\nf "), 2 * (72 + 6))
+
     def test_measures(self):
         """A box of 3 x 2 x 6 voxels and one voxel, then two labels that touch, in voxels of 0.5 x 1 x 2."""
         self.made()
@@ -301,7 +311,7 @@ class CommandLine(CommandCase):
             self.run_it(*words, status=2)
         self.assertFalse((self.folder / "a.vdbs").exists())
         for words, missing in (
-            (("view", "a.nii"), "OUT.html"), (("slice", "a.nii", "--at", 2), "OUT.png, --axis"), (("view",), "FILE, OUT.html"), (("labels", "a"), "GRID"),
+            (("view", "a.nii"), "OUT.html"), (("slice", "a.nii", "--at", 2), "OUT.png, --axis"), (("view",), "FILE, OUT.html"), (("mesh", "a.nii"), "OUT"),
         ):  # fmt: skip
             self.assertIn(f"the following arguments are required: {missing}\n", self.called(*words)[2])
 
@@ -327,8 +337,7 @@ class CommandLine(CommandCase):
         np.save(self.folder / "long.npy", np.full((1, 1, 1), 2**63, np.uint64))
         self.fails("convert", "long.npy", "a.vdbs", told="so no grid holds it\n")
         hint = ". For an image use vdb.formats.load, or vdb-scene convert IMAGE x.vdbs\n"
-        for words in (("info",), ("labels", "lab"), ("mesh", "lab", "o.ply")):
-            self.fails(words[0], "in.npy", *words[1:], told=f"in.npy: byte 0: magic: the file begins with b'\\x93NUM', not b'VDBS'{hint}")
+        self.fails("info", "in.npy", told=f"in.npy: byte 0: magic: the file begins with b'\\x93NUM', not b'VDBS'{hint}")
         (self.folder / "no.vdbs").write_bytes(b"none")
         self.fails("info", "no.vdbs", told="begins with b'none', not b'VDBS'\n")
         self.assertEqual((self.folder / "a.vdbs").read_bytes(), data)

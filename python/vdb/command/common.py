@@ -125,7 +125,7 @@ def opened(arguments: argparse.Namespace) -> "Tuple[str, scenefile.Grid, label_n
     Raises Problem if OUT, which would be overwritten, has the ending of such a file.
     """
     path, name, images = arguments.file, arguments.grid, tuple(formats.FORMATS)
-    if arguments.out.lower().endswith((".vdbs", ".vdbs.gz", ".tsv", *images)):
+    if getattr(arguments, "out", "").lower().endswith((".vdbs", ".vdbs.gz", ".tsv", *images)):
         raise Problem(f"{arguments.out}: the ending is that of a scene file, a table of names or an image, which isn't overwritten")
     if path.lower().endswith(images):
         with naming(path):
@@ -186,21 +186,21 @@ def box_of(numbers: "Optional[Sequence[int]]") -> Optional[Bounds]:
     return (x0, y0, z0), (x1, y1, z1)
 
 
-def add_scene_and_grid(parser: argparse.ArgumentParser) -> None:
-    """Adds the arguments FILE and GRID."""
-    parser.add_argument("file", metavar="FILE", help="a scene file")
-    parser.add_argument("grid", metavar="GRID", help="the name of a grid")
+def add_image(parser: argparse.ArgumentParser, out: str = "", told: str = "the file to write; - for standard output") -> None:
+    """Adds the arguments FILE, GRID and, if it has a name, OUT, and the option --max-bytes."""
+    parser.add_argument("file", metavar="FILE", help=f"a scene file or an image ({', '.join(formats.FORMATS)})")
+    parser.add_argument("grid", nargs=None if out else "?", metavar="GRID", help="the name of a grid; omit it for an image or a scene of one grid")
+    if out:
+        parser.add_argument("out", nargs="?", metavar=out, help=told)
+    add_max_bytes(parser)
 
 
 def add_image_and_out(parser: argparse.ArgumentParser, out: str) -> None:
     """Adds the arguments FILE, GRID and OUT, and the options of a gray image."""
-    parser.add_argument("file", metavar="FILE", help=f"a scene file or an image ({', '.join(formats.FORMATS)})")
-    parser.add_argument("grid", metavar="GRID", help="the name of a grid; omit it for an image or a scene of one grid")
-    parser.add_argument("out", nargs="?", metavar=out, help="the file to write; - for standard output")
+    add_image(parser, out)
     parser.add_argument("--beneath", metavar="IMAGE", help="a gray image of the same voxels, which is shown beneath the labels")
     parser.add_argument("--window", nargs=2, type=number_word, metavar=("BLACK", "WHITE"), help="the numbers of the gray image that are black and "
                         "white (default: nearly the least and the greatest one)")  # fmt: skip
-    add_max_bytes(parser)
 
 
 def add_bounds(parser: "argparse._ActionsContainer", what: str, usual: str = "the bounding box of the active voxels") -> None:

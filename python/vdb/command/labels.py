@@ -2,7 +2,7 @@
 """Prints each value of active voxels: VALUE COUNT X0 Y0 Z0 X1 Y1 Z1 NAME, by rising values.
 
 COUNT is the number of active voxels with this value, the six numbers are their bounding box. NAME
-is that of the table of names, FILE.GRID.tsv or FILE.tsv (without .vdbs), or of metadata pairs.
+is that of the table of names, FILE.GRID.tsv or FILE.tsv (without its ending), or of metadata pairs.
 
 With --measure it prints VALUE COUNT VOLUME AREA X Y Z DX DY DZ X0 Y0 Z0 X1 Y1 Z1 NEIGHBOURS NAME.
 AREA is that of the faces between these voxels and all others, X Y Z the mean of their coordinates in
@@ -16,23 +16,21 @@ import csv
 import json
 import sys
 
-from .. import label_names
 from ..labels import MeasureRow, measure
-from .common import about, add_scene_and_grid, grid_of, loaded, numbers_of, text_of
+from .common import about, add_image, numbers_of, opened, text_of
 
-EXAMPLE = "labels scene.vdbs organs --measure csv"
+EXAMPLE = "labels labels.nii.gz --measure\n         vdb-scene labels scene.vdbs organs --measure csv"
 COLUMNS = "value voxels volume area x y z dx dy dz x0 y0 z0 x1 y1 z1 neighbours name".split()
 
 
 def add_arguments(parser: argparse.ArgumentParser) -> None:
-    add_scene_and_grid(parser)
+    add_image(parser)
     parser.add_argument("--measure", nargs="?", const="text", choices=("text", "csv", "json"), help="print measures too: as text, or as CSV or JSON "
                         "with the names of columns")  # fmt: skip
 
 
 def run(arguments: argparse.Namespace) -> None:
-    grid = grid_of(loaded(arguments.file), arguments.file, arguments.grid)
-    names = label_names.of(arguments.file, arguments.grid, grid.metadata)
+    _, grid, names = opened(arguments)
     if not arguments.measure:
         for label in grid.labels().rows(names):
             print(text_of(label.value), label.voxels, numbers_of((label.low, label.high)), *label.name.split())

@@ -4,7 +4,7 @@
 The mesh of each label is closed by itself: it has the faces to inactive voxels and to other labels.
 Triangles run anticlockwise, seen from outside. Voxel x reaches from x - 0.5 to x + 0.5, and the affine
 of the grid, if it keeps one, maps that to the world. Names and colours of labels are those of the
-table FILE.GRID.tsv or FILE.tsv (without .vdbs), if it has them."""
+table FILE.GRID.tsv or FILE.tsv (without its ending), if it has them."""
 from __future__ import annotations
 
 import argparse
@@ -13,22 +13,20 @@ from typing import List, Optional
 
 import numpy as np
 
-from .. import label_names
 from ..errors import RangeError
 from ..forms import Value
 from ..scenefile import Grid
 from ..scenefile.faces import Show, faces
 from ..scenefile.mesh import merged, mesh_of
-from .common import about, add_scene_and_grid, count_word, grid_of, loaded, output, progress, text_of, value_word, world_of
+from .common import about, add_image, count_word, opened, output, progress, text_of, value_word, world_of
 from .mesh_files import WRITERS, Model
 
-EXAMPLE = "mesh scene.vdbs organs organs.glb --label 2 --label 5 --merge"
+EXAMPLE = "mesh labels.nii.gz labels.glb --merge\n         vdb-scene mesh scene.vdbs organs organs.glb --label 2 --label 5"
 MOST_FACES = 10_000_000
 
 
 def add_arguments(parser: argparse.ArgumentParser) -> None:
-    add_scene_and_grid(parser)
-    parser.add_argument("out", metavar="OUT", help="the file, OUT.ply, OUT.glb or OUT.obj")
+    add_image(parser, "OUT", "the file, OUT.ply, OUT.glb or OUT.obj")
     parser.add_argument("--label", action="append", type=value_word, metavar="V", help="only this label; may be given more than once")
     parser.add_argument("--merge", action="store_true", help="join faces in a plane to larger rectangles: far fewer triangles of the same "
                         "area and volume, but corners lie on the edges of other triangles")  # fmt: skip
@@ -42,10 +40,9 @@ def run(arguments: argparse.Namespace) -> None:
     with about(arguments.out):
         if ending not in WRITERS:
             raise RangeError(f"the ending is none of {', '.join(WRITERS)}")
-    grid = grid_of(loaded(arguments.file), arguments.file, arguments.grid)
+    name, grid, names = opened(arguments)
     with about(arguments.file), progress("finding faces in", arguments.file, unit=" voxels") as show:
-        model = model_of(grid, arguments.grid, arguments.label, arguments.merge, arguments.max_faces, show)
-        model = model._replace(names=label_names.of(arguments.file, arguments.grid, grid.metadata))
+        model = model_of(grid, name, arguments.label, arguments.merge, arguments.max_faces, show)._replace(names=names)
     with about(arguments.out), output(arguments.out) as file:
         for piece in WRITERS[ending](model):
             file.write(piece)
