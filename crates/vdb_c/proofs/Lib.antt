@@ -25,5 +25,6 @@ pub mod LeafFields
 pub mod GivenLeaves
 pub mod GivenFields
 pub mod BuiltGrids
+pub mod SameTrees
 pub mod EqualCells
 pub mod PartsPast

@@ -1,13 +1,6 @@
--- Grids with equal trees.
-use Rattle.vdb_c.proofs.Common.{rules, HasSameTree, refl, AnyGrid}
-use Rattle.vdb_scene.specs.declared.any_grid.AnyGrid.TheVariants.{Bool, I32, I64}
+use Rattle.vdb_c.proofs.Common.{rules, HasSameTree}
+use Rattle.vdb_c.proofs.SameTrees.{same_tree}
 use Rattle.vdb_c.proofs.voxels.vdb_grid_probe.Goals as goal
-
--- a grid has its own tree
-same_tree : (g : AnyGrid) → HasSameTree g g
-same_tree (Bool g) = refl
-same_tree (I32 g) = refl
-same_tree (I64 g) = refl
 
 pub returns : goal.returns
 returns c =
