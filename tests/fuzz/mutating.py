@@ -1,7 +1,7 @@
 # SPDX-License-Identifier: Apache-2.0
 """Makes scripts and scene files from those of the corpus, by chance.
 
-The corpus is the rows of tests/fuzz/corpus and of tests/rows. Scripts are mutated by lines and tokens, and get lines of the grammar of
+The corpus is the rows of tests/fuzz/corpus.rows and of tests/rows. Scripts are mutated by lines and tokens, and get lines of the grammar of
 random_scripts.py. Scene files are mutated by fields and nodes, so that most break one rule of docs/FORMAT.md or none, and by bytes."""
 import re
 from copy import deepcopy
@@ -12,7 +12,7 @@ from random_scripts import EDGES, FAR, Script
 import rows
 import vectors
 
-CORPUS = sorted(TOP.glob("tests/fuzz/corpus/*.rows"))
+CORPUS = TOP / "tests/fuzz/corpus.rows"
 ALIKE = [
     TWO, KINDS, ["set", "unset", "only"], ["dilate", "erode"], ["clip", "voxelise", "count"],
     ["drop", "prune", "bounds", "census", "metas"],
@@ -26,7 +26,7 @@ LONGEST = 60  # lines of a script
 def corpus():
     """Returns the rows of the corpus and of tests/rows, without those of a script that isn't read to its end, and those whose scene
     is too long for a file: each driver saves."""
-    every = [row for file in CORPUS + rows.DATA for row in rows.read(file)]
+    every = [row for file in [CORPUS, *rows.DATA] for row in rows.read(file)]
     return [row for row in every if (row.load is not None or not row.stderr) and not row.name.startswith("a scene too long")]
 
 
