@@ -8,7 +8,7 @@ import math
 import os
 import re
 import sys
-from typing import Any, BinaryIO, ContextManager, Iterator, NoReturn, Optional, Sequence, Tuple
+from typing import Any, BinaryIO, ContextManager, Dict, Iterator, NoReturn, Optional, Sequence, Tuple
 
 import numpy as np
 
@@ -189,7 +189,8 @@ def box_of(numbers: "Optional[Sequence[int]]") -> Optional[Bounds]:
 def add_image(parser: argparse.ArgumentParser, out: str = "", told: str = "the file to write; - for standard output") -> None:
     """Adds the arguments FILE, GRID and, if it has a name, OUT, and the option --max-bytes."""
     parser.add_argument("file", metavar="FILE", help=f"a scene file or an image ({', '.join(formats.FORMATS)})")
-    parser.add_argument("grid", nargs=None if out else "?", metavar="GRID", help="the name of a grid; omit it for an image or a scene of one grid")
+    last: Dict[str, Any] = {} if out else {"nargs": "?"}  # before OUT, Parser lets it be left out
+    parser.add_argument("grid", metavar="GRID", help="the name of a grid; omit it for an image or a scene of one grid", **last)
     if out:
         parser.add_argument("out", nargs="?", metavar=out, help=told)
     add_max_bytes(parser)
