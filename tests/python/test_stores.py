@@ -50,6 +50,18 @@ class Stores(CommandCase):
             formats.save(self.folder / "b.zarr", vdb.Mask(grid), bounds=(LOW, (10, 18, 4101)))
             np.testing.assert_array_equal(self.array(self.folder / "b.zarr"), active)
 
+    def test_checksums_of_another_number(self):
+        """A header that promises 2^32 checksums is an error before memory is allocated, in `load` and where a part is read."""
+        from vdb import chunks
+
+        formats.save(self.folder / "a.zarr", vdb.Grid.from_array(np.ones((3, 3, 3), np.int32)))
+        header = next((self.folder / "a.zarr").glob("*/sums/.zarray"))
+        header.write_text(json.dumps({**json.loads(header.read_text()), "shape": [2, 1, 1, 2**32 - 1]}))
+        with self.assertRaisesRegex(vdb.VdbError, "a.zarr: .*the checksums of the chunks are others"):
+            formats.load(self.folder / "a.zarr", vdb.Grid)
+        with self.assertRaisesRegex(vdb.VdbError, "a.zarr: .*checksums of 4,294,967,295 chunks, where the array has 1"):
+            chunks.from_array(self.folder / "a.zarr", self.folder / "b.zarr")
+
     def test_voxels_outside_an_image(self):
         from vdb import chunks
 

@@ -143,7 +143,10 @@ def level_0(group: Any) -> Opened:
     if own:  # OME-Zarr keeps no more than the sizes of voxels of most affines
         affine, image = moved(affine_of(own["metadata"]), own["low"]), Image.of(own["metadata"])
         notes = dict(image.notes) if image else notes
-        has_states = own["background"] != 0 or any(group[level["path"][: -len(zarr_stores.ARRAYS[0])] + zarr_stores.SUMS][1].flat)
+        sums = group[level["path"][: -len(zarr_stores.ARRAYS[0])] + zarr_stores.SUMS]
+        if sums.size != 2 * array.nchunks:
+            raise ValueError(f"checksums of {sums.size // 2:,} chunks, where the array has {array.nchunks:,}")
+        has_states = own["background"] != 0 or any(sums[1].flat)
     return Opened(array, order, affine, notes, attributes.get("image-label", {}), has_states)
 
 
