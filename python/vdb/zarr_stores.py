@@ -236,6 +236,22 @@ def store_of(path: str) -> Any:
     return package("zarr.storage", "python3-zarr").normalize_store_arg(path, mode="a")
 
 
+def whole(array: Any, path: str) -> Any:
+    """Returns an array whose chunks of Blosc are a VolumeError if their head tells of other lengths than theirs: Blosc itself would read past
+    their end, or allocate what the head says."""
+    if array.compressor and array.compressor.codec_id == "blosc":
+        decode, needed = array.compressor.decode, 0 if array.filters else math.prod(array.chunks) * array.dtype.itemsize
+
+        def checked(data: Any, *out: Any) -> Any:
+            made, length = (int.from_bytes(bytes(data[at : at + 4]), "little") for at in (4, 12))
+            if length != len(data) or needed not in (0, made):
+                raise VolumeError(f"a chunk of {len(data):,} bytes, which isn't the length that Blosc wrote", path)
+            return decode(data, *out)
+
+        array.compressor.decode = checked
+    return array
+
+
 def is_local(path: str) -> bool:
     """Returns whether a path isn't a URL of fsspec."""
     return "://" not in path
@@ -306,7 +322,7 @@ def read_volume(path: str) -> "Tuple[Volume, Dict[str, Any]]":
             form = Form(*(found[key] for key in Form._fields)).check()
             found["bounds"] = found["bounds"] and check_bounds(found["bounds"])
             found["count"], found["metadata"] = int(found["count"]), Metadata(found["metadata"])
-            sums = package("zarr", "python3-zarr").Array(store_of(path), f"{found['written']}/{SUMS}")
+            sums = whole(package("zarr", "python3-zarr").Array(store_of(path), f"{found['written']}/{SUMS}"), path)
             # the shape first: a wrong one may promise more than there is memory for
             sums = sums[...] if sums.shape == (2, *form.counts) else np.empty(0)
             if sum_of(sums.tobytes()) != found["sums"]:

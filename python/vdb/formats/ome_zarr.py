@@ -98,7 +98,7 @@ def opened(path: str) -> Opened:
     try:
         found = library.open(path, mode="r")
         made = Opened(found, axes_of(found), identity(), {}, {}, False) if isinstance(found, library.Array) else level_0(found)
-        return made._replace(array=whole(made.array, path))
+        return made._replace(array=zarr_stores.whole(made.array, path))
     except Exception as error:
         raise VolumeError(f"no image of zarr: {type(error).__name__}: {error}", path) from error
 
@@ -107,20 +107,6 @@ def axes_of(array: Any) -> "List[int]":
     """Returns the places of the axes x, y and z of an array, which xarray may have named, else the first three."""
     names = array.attrs.get("_ARRAY_DIMENSIONS", [])
     return [names.index(axis) for axis in "xyz"] if sorted(names) == ["x", "y", "z"] else [0, 1, 2]
-
-
-def whole(array: Any, path: str) -> Any:
-    """Returns an array whose chunks of Blosc are a VolumeError if they were cut short: Blosc itself would read past their end."""
-    if array.compressor and array.compressor.codec_id == "blosc":
-        decode = array.compressor.decode
-
-        def checked(data: Any, *out: Any) -> Any:
-            if int.from_bytes(bytes(data[12:16]), "little") != len(data):
-                raise VolumeError(f"a chunk of {len(data):,} bytes, which isn't the length that Blosc wrote", path)
-            return decode(data, *out)
-
-        array.compressor.decode = checked
-    return array
 
 
 def level_0(group: Any) -> Opened:
