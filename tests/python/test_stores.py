@@ -55,6 +55,12 @@ class Stores(CommandCase):
         from vdb import chunks
 
         formats.save(self.folder / "a.zarr", vdb.Grid.from_array(np.ones((3, 3, 3), np.int32)))
+        chunk = next((self.folder / "a.zarr").glob("*/sums/0/0/0/0"))
+        data = chunk.read_bytes()
+        chunk.write_bytes(data[:4] + (2**31 - 1).to_bytes(4, "little") + data[8:])  # the size that the head of Blosc tells of
+        with self.assertRaisesRegex(vdb.VdbError, "a.zarr: .*which isn't the length that Blosc wrote"):
+            formats.load(self.folder / "a.zarr", vdb.Grid)
+        chunk.write_bytes(data)
         header = next((self.folder / "a.zarr").glob("*/sums/.zarray"))
         header.write_text(json.dumps({**json.loads(header.read_text()), "shape": [2, 1, 1, 2**32 - 1]}))
         with self.assertRaisesRegex(vdb.VdbError, "a.zarr: .*the checksums of the chunks are others"):
